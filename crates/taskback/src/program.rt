@@ -50,7 +50,7 @@ fn read_options<R: Env + Print + Eprint + AllocGlobal>(rt: &R) -> Result<Setting
 
 /// Says that a word of the command line isn't text, as `clap` says what else is wrong with the words.
 fn no_text<R: Eprint>(rt: &R) -> u8 {
-    // There is nowhere else to tell it.
+    // There is nowhere else to report it.
     let _ = eprintln!(rt;
         "error: invalid UTF-8 was detected in one or more arguments\n\nFor more information, try '--help'."
     );
@@ -89,7 +89,7 @@ fn unwritten<R: Eprint>(rt: &R, is_unread: bool) -> u8 {
 
 /// Says on standard error why there is no more, and gives the exit status.
 fn told<R: Eprint>(rt: &R, halt: Halt) -> u8 {
-    // There is nowhere else to tell it.
+    // There is nowhere else to report it.
     let _ = eprintln!(rt; "taskback: {halt}");
     halt.status()
 }

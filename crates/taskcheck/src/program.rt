@@ -74,7 +74,7 @@ fn judge_from<R: Print + Eprint + AllocGlobal + Wait, F: Read + Drop>(rt: &R, in
 
 /// Says that a word of the command line isn't text, as `clap` says what else is wrong with the words.
 fn no_text<R: Eprint>(rt: &R) -> u8 {
-    // There is nowhere else to tell it.
+    // There is nowhere else to report it.
     let _ = eprintln!(rt;
         "error: invalid UTF-8 was detected in one or more arguments\n\nFor more information, try '--help'."
     );
@@ -83,7 +83,7 @@ fn no_text<R: Eprint>(rt: &R) -> u8 {
 
 /// Says why the file with this name can't be opened.
 fn unopened<R: Eprint>(rt: &R, name: &str, error: io::Error) -> u8 {
-    // There is nowhere else to tell it.
+    // There is nowhere else to report it.
     let _ = eprintln!(rt; "taskcheck: {name}: {error}");
     UNOPENED
 }
@@ -100,7 +100,7 @@ fn unwritten<R: Eprint>(rt: &R, is_unread: bool) -> u8 {
 
 /// Says on standard error why there is no more, and gives the exit status.
 fn halted<R: Eprint>(rt: &R, halt: Halt) -> u8 {
-    // There is nowhere else to tell it.
+    // There is nowhere else to report it.
     let _ = eprintln!(rt; "taskcheck: {halt}");
     halt.status()
 }

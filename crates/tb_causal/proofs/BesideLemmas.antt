@@ -1,4 +1,4 @@
--- Two events of different tasks that may both come next: each may still come behind the other.
+-- Two events of different tasks that may both come next: each may still come after the other.
 use Rattle.std.proofs.Common.{◌≡◌, ◌≢◌, ℕ, suc, [], ◌∷◌, true, false, ◌&&◌, ◌||◌, ◌==◌, ⊎_elim, refl, sym, ap, ap₂, ◌∙◌, subst, cond, Some, ℤ, ne_eqb, eq-eqb}
 use Rattle.std.specs.List.{list_any}
 use Rattle.std.proofs.lemmas.Bool.{or_cases, or_left, or_right, or_parts, and_parts, and_from, both_ways, false≢true, false_from_ne_true}
@@ -112,7 +112,7 @@ next_beside P H f e l m n x y z =
       follows = n.follows ∙ sym (planned_other P f H e.task (loaded e.action) o.0 q.0);
     }
 
--- where the second start still comes behind the first, the two don't exclude each other
+-- where the second start still comes after the first, the two don't exclude each other
 pub not_excluded : (cells : Cells) (H : History) (f e : Event) → Legal cells H → MayFollow cells H f → MayFollow cells (f ∷ H) e → is_of e.task f ≡ false → exclude H f e ≡ false
 not_excluded cells H f e l m n o =
     false_from_ne_true (exclude H f e) (λ h.

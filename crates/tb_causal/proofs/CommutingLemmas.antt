@@ -66,7 +66,7 @@ module _ (P : Program) (H : History) (i : StepId) (a : Action) (j : StepId) (b :
 
 -- ---- a step and an undo
 
--- where the undo can be taken behind the step, the step doesn't need what is undone
+-- where the undo can be taken after the step, the step doesn't need what is undone
 undo_behind_step : (P : Program) (H : History) (i : StepId) (a : Action) (j : StepId) (b : Action) → Enabled P H (Step i a) → Enabled P (event i a ∷ H) (Undo j b) → needs_step H (event i a) j H ≡ false
 undo_behind_step P H i a j b s u =
     let v = event i a in

@@ -53,7 +53,7 @@ program cs = record {
   root_line = 0;
 }
 
--- both were generated
+-- a history in which both tasks were generated
 abbrev ready : List Item → History
 ready is = by [] (Spawn (record { child = two; body = 3; args = []; items = is; deferred = true })) ∷ by [] (Spawn (record { child = one; body = 3; args = []; items = is; deferred = true })) ∷ by [] Start ∷ []
 
@@ -138,7 +138,7 @@ middle_left = refl
 steps_to_one : steps_of (by one Start ∷ ready []) ≡ steps_of (ready []) ++ first ∷ []
 steps_to_one = refl
 
--- steps with an undo behind them, and the one step that is left of them
+-- steps with an undo after them, and the one step that is left of them
 with_undo : IsPath (runs free) (ready []) (first ∷ second ∷ inverse first ∷ [])
 with_undo = (first_enabled, (starts_square.first, (middle_undone, tt)))
 
@@ -163,7 +163,7 @@ wrong_action_lost h = h.1.may.own
 no_second_start : Enabled free (by one Start ∷ ready []) first → ⊥
 no_second_start h = omega (arith, h.0)
 
--- behind both starts each may print, and the two orders differ
+-- after both starts each may print, and the two orders differ
 abbrev print_one : Label
 print_one = Step (record { task = one; k = 2 }) (Print (ℤ.pos 7))
 
@@ -182,7 +182,8 @@ prints_dependent h = false≢true (sym h.0)
 orders_differ : Equivalent (target (target both print_one) print_two) (target (target both print_two) print_one) → ⊥
 orders_differ q = false≢true (q.there (record { task = two; k = 2 }) (record { task = one; k = 2 }) refl)
 
--- so the two runs aren't one state, though they have the same steps: the last print alone can be undone
+-- the two runs aren't one state, though they have the same steps: the last print alone can be
+-- undone
 last_print_undone : Enabled free (target (target both print_two) print_one) (inverse print_one)
 last_print_undone = (refl, refl)
 
@@ -196,7 +197,7 @@ other_undone = (refl, refl)
 undos_apart : Independent both (inverse first) (inverse second)
 undos_apart = (λ e. false≢true (ap (λ (i : StepId). same_name two i.task) e), refl, refl)
 
--- the spawn of the first task stays while its start stands
+-- the spawn of the first task stays while its start is there
 abbrev spawn_one : StepId
 spawn_one = record { task = []; k = 2 }
 
@@ -206,7 +207,7 @@ needed_spawn = refl
 spawn_stays : Enabled free both (Undo spawn_one (Spawn (record { child = one; body = 3; args = []; items = []; deferred = true }))) → ⊥
 spawn_stays h = omega (arith, h.0)
 
--- its undo would leave too little
+-- the undo of the spawn alone would leave too little
 with_all_that_need_it : target both (Undo spawn_one (Spawn (record { child = one; body = 3; args = []; items = []; deferred = true }))) ≡ by [] Start ∷ []
 with_all_that_need_it = refl
 
@@ -244,7 +245,7 @@ least_way : PathBack (runs free) (by two Start ∷ ready []) (ready [])
 least_way =
     rollback_least free both (record { task = one; k = 1 }) (inverse second ∷ inverse first ∷ []) both_run both_undone (refl, (refl, tt)) gone
 
--- no step needs the first start, which stands: so it can be undone
+-- no step needs the first start, which is there: so it can be undone
 can_go : Enabled free both (inverse first)
 can_go =
     (none_unneeded (record { task = one; k = 1 }) both refl (unneeded_none (record { task = one; k = 1 }) both middle_undone.0), refl)
@@ -296,12 +297,12 @@ either_starts = (
   (refl, record { may = child_may 2 held refl refl refl nobody_before; follows = refl }),
 )
 
--- neither needs the other
+-- of the two starts neither needs the other
 no_needs : (needs (by one Start ∷ ready held) (by two Start) (by one Start) ≡ false) × (needs (by two Start ∷ ready held) (by one Start) (by two Start) ≡ false)
 no_needs = (refl, refl)
 
--- the second can't start behind the first, though neither needs the other: so the two must not
--- count as independent
+-- the second can't start after the first, though neither needs the other: so the two must not count
+-- as independent
 excluded : Enabled exclusive (target (ready held) first) second → ⊥
 excluded h = false≢true (h.1.may.timely.alone one refl refl)
 

@@ -43,7 +43,7 @@ same_independent P G H l m s q n = at l m n
     at (Undo i a) (Undo j b) n =
         let d = (equivalent_state P.cells G H s.0 q).1 in (n.0, sym (d i j) ∙ n.1, sym (d j i) ∙ n.2)
 
--- both ways
+-- independence is symmetric
 pub symmetric : (H : History) (l m : Label) → Independent H l m → Independent H m l
 symmetric H (Step i a) (Step j b) n = (n.1, n.0, exclude_sym H (event j b) (event i a) ∙ n.2)
 symmetric H (Step i a) (Undo j b) n = n
@@ -60,13 +60,13 @@ irreflexive H (Undo i a) n = n.0 refl
 pub newest_is : (H : History) (i : StepId) (a : Action) → i.k ≡ suc (length (own i.task H)) → step_of H (event i a) ≡ i
 newest_is H i a k = λ x. record { task = i.task; k = sym k x }
 
--- behind the step, a direct need of it is one of its event
+-- after the step, a direct need of it is one of its event
 pub newest_need : (H : History) (i : StepId) (a : Action) (w : Event) → i.k ≡ suc (length (own i.task H)) → needs_step (event i a ∷ H) w i (event i a ∷ H) ≡ needs (event i a ∷ H) w (event i a)
 newest_need H i a w k =
     let v = event i a in
     subst (λ e. needs_step (v ∷ H) w e (v ∷ H) ≡ needs (v ∷ H) w v) (newest_is H i a k) (needs_it v H (v ∷ H) w [])
 
--- behind one of two independent transitions, the way back and the other are independent
+-- after one of two independent transitions, the way back and the other are independent
 pub propagated : (P : Program) (H : History) (l m : Label) → LegalFor P H → Enabled P H l → Enabled P H m → Independent H l m → Independent (target H l) (inverse l) m
 propagated P H (Step i a) (Step j b) l s t n = newest_need H i a (event j b) s.0 ∙ n.0
 propagated P H (Step i a) (Undo j b) l s t n =

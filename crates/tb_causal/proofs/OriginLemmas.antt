@@ -13,7 +13,7 @@ use Rattle.tb_causal.proofs.AxiomsLemmas.{axioms}
 use Rattle.tb_causal.proofs.RollbackLemmas.{rolled}
 use Rattle.tb_causal.proofs.SystemLemmas.{joined, end_joined, sound, consistent}
 
--- it ends there
+-- the path of a history's steps ends in the history
 pub end_of_steps : (P : Program) (H : History) → end_of (runs P) [] (steps_of H) ≡ H
 end_of_steps P [] = refl
 end_of_steps P (v ∷ H) =
@@ -53,7 +53,7 @@ leads_on P r s G H p e q f = (
   end_joined (runs P) (axioms P) [] r s ∙ ap (λ K. end_of (runs P) K s) e ∙ f,
 )
 
--- so is each sound journal
+-- what a sound journal did is a path from the empty history
 pub leads : (P : Program) (J : List Entry) → Sound P J → Leads P J
 leads P [] s = elim s [ ]
 leads P (Opened ∷ J) s = record { path = tt; ends = refl }

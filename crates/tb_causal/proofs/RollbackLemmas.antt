@@ -66,7 +66,7 @@ rolled P H e = undone_from P e [] H
 
 -- ---- the least
 
--- a rollback of a step that doesn't stand leaves all
+-- a rollback of a step that isn't there leaves all
 none_gone : (e : StepId) (H : History) → stands e H ≡ false → without e H ≡ H
 none_gone e [] s = refl
 none_gone e (v ∷ H) s =
@@ -87,7 +87,7 @@ back_from P F G K l m q r =
       ends = equivalent_trans P.cells _ _ _ ge.0 fe.0 (equivalent_sym c.ends) r.ends;
     }
 
--- the step i, newest behind G, goes with e or stays
+-- the step i, newest after G, goes with e or stays
 module _ (P : Program) (e : StepId) (G : History) (i : StepId) (a : Action) (g : LegalFor P G) (s : Enabled P G (Step i a)) (K : History) where
   left_behind : PathBack (runs P) (without e G) K → (b : Bool) → is_removed e G (event i a) ≡ b → PathBack (runs P) (prepend_if (not b) (event i a) (without e G)) K
   left_behind r true h = r
@@ -103,7 +103,7 @@ module _ (P : Program) (e : StepId) (G : History) (i : StepId) (a : Action) (g :
       let rest = back_from P F (target (v ∷ F) (Undo i a)) K f (removal_for P i (v ∷ F) whole) (equivalent_sym p.1) r in
       record { labels = Undo i a ∷ rest.labels; path = (p.0, rest.path); backward = (refl, rest.backward); ends = rest.ends }
 
--- any path of undos behind which the step doesn't stand
+-- any path of undos after which the step isn't there
 pub rollback_least : (P : Program) (H : History) (e : StepId) (r : List Label) → LegalFor P H → IsPath (runs P) H r → AreBackward (runs P) r → stands e (end_of (runs P) H r) ≡ false → PathBack (runs P) (without e H) (end_of (runs P) H r)
 rollback_least P H e [] l p b s = record {
   labels = [];

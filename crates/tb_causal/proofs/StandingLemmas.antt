@@ -1,4 +1,4 @@
--- Where a step stands, and what directly needs it.
+-- Where a step is, and what directly needs it.
 use Rattle.std.proofs.Common.{◌≡◌, ◌≤◌, ◌<◌, ℕ, suc, List, [], ◌∷◌, ◌++◌, length, Bool, true, false, ◌&&◌, ◌||◌, refl, sym, ap, ap₂, ◌∙◌, subst, ◌==◌, arith, cond, eq-eqb, ne_eqb, Some}
 use Rattle.std.specs.List.{list_any}
 use Rattle.std.proofs.lemmas.Bool.{or_left, or_right, or_parts, and_from}
@@ -19,9 +19,9 @@ use Rattle.tb_laws.proofs.NeedersLemmas.{standing}
 use Rattle.tb_model.proofs.UndoLemmas.{AreFree, single, singled}
 use Rattle.tb_causal.specs.Runs.{kth}
 
--- ---- a step that is removed stands
+-- ---- a step that is removed is there
 
--- what doesn't stand takes nothing with it
+-- what isn't there takes nothing with it
 pub none_removed : (e : StepId) (H : History) → stands e H ≡ false → removed e H ≡ []
 none_removed e [] s = refl
 none_removed e (v ∷ H) s =
@@ -35,13 +35,13 @@ unneeded_stands e H h = at (stands e H) refl
     at true s = refl
     at false s = absurd (omega (arith, h, ap length (none_removed e H s)))
 
--- what holds wherever a step stands
+-- what holds wherever a step is
 pub where_it_stands : (C : StepId → History → Type 0) → ((later : History) (v : Event) (front : History) → C (step_of front v) (later ++ v ∷ front)) → (e : StepId) (H : History) → stands e H ≡ true → C e H
 where_it_stands C f e H s =
     let r = standing e H s in
     subst (C e) (sym r.split) (subst (λ i. C i (r.later ++ r.event ∷ r.front)) r.step (f r.later r.event r.front))
 
--- no event behind is the step
+-- no event after is the step
 pub not_newest : (e : StepId) (H : History) → stands e H ≡ true → (w : Event) → is_step e H w ≡ false
 not_newest = where_it_stands (λ e H. (w : Event) → is_step e H w ≡ false) (λ later v front w. later_not_step v front later w)
 
@@ -68,7 +68,7 @@ kth_stands (w ∷ later) v front = at (is_of v.task w) ∙ kth_stands later v fr
         kth_before _ w.action (own v.task (later ++ v ∷ front)) (omega (arith, own_more v.task front v later, ap length (own_mine v.task v front (same_refl v.task))))
     at false = refl
 
--- one more event behind leaves what a step did
+-- one more event after leaves what a step did
 pub kth_more : (e : StepId) (H : History) → stands e H ≡ true → (w : Event) → kth e.k (own e.task (w ∷ H)) ≡ kth e.k (own e.task H)
 kth_more = where_it_stands (λ e H. (w : Event) → kth e.k (own e.task (w ∷ H)) ≡ kth e.k (own e.task H)) (λ later v front w. kth_stands (w ∷ later) v front ∙ sym (kth_stands later v front))
 
@@ -134,7 +134,7 @@ module _ (v : Event) (front : History) where
             ∙ (or_parts (is_step (step_of H w) H w && needs_step H w e H) _ (h (step_of H w))).0,
       )
 
-  -- the task does no more behind it
+  -- the task does no more after it
   pub own_last : (later : History) → AreFree v front later → own v.task (later ++ front) ≡ own v.task front
   own_last [] f = refl
   own_last (w ∷ later) f =
@@ -160,7 +160,7 @@ needs_one e H h w =
     or_none true = refl
     or_none false = refl
 
--- what did something stands
+-- what did something is there
 pub did_stands : (e : StepId) (a : Action) (H : History) → kth e.k (own e.task H) ≡ Some a → stands e H ≡ true
 did_stands e a [] h = cc
 did_stands e a (v ∷ H) h = at (did_stands e a H) (is_of e.task v) refl h

@@ -1,4 +1,4 @@
--- Equivalence of runs, and what it keeps.
+-- Equivalence of runs, and what it retains.
 use Rattle.std.proofs.Common.{◌≡◌, ◌+◌, suc, List, ◌∷◌, length, refl, sym, ap, ◌∙◌, arith}
 use Rattle.tb_model.specs.declared.event.Event.{Event}
 use Rattle.tb_model.specs.declared.step_id.StepId.{StepId}
@@ -30,7 +30,7 @@ equivalent_trans cells F G H l m p q = record {
   back = λ i j h. p.back i j ((equivalent_state cells G H m q).1 i j ∙ h);
 }
 
--- ---- what it keeps
+-- ---- what it retains
 
 -- one more event
 pub equivalent_more : (cells : Cells) (v : Event) (G H : History) → Legal cells (v ∷ H) → Equivalent G H → Equivalent (v ∷ G) (v ∷ H)
@@ -43,7 +43,7 @@ run_length (runs.more v r) = ap suc (run_length r)
 run_length (runs.swap e f H n) = refl
 run_length (runs.by_way r q) = run_length r ∙ run_length q
 
--- the number of events
+-- the count of events
 pub equivalent_length : (cells : Cells) (G H : History) → Legal cells H → Equivalent G H → length G ≡ length H
 equivalent_length cells G H l q = sym (run_length (equivalent_run cells G H l q))
 

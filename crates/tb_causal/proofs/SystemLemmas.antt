@@ -67,7 +67,7 @@ module _ (S : System) (A : Axioms S) where
   in_front (swap x l m ls a b i) ns = swap x l m (ls ++ ns) a b i
   in_front (cancel x l ls a) ns = cancel x l (ls ++ ns) a
 
-  -- behind a common beginning
+  -- after a common beginning
   behind_all : (x : S.State) (ks : List S.Label) {ls ms : List S.Label} → CausallyEquivalent S (end_of S x ks) ls ms → CausallyEquivalent S x (ks ++ ls) (ks ++ ms)
   behind_all x [] r = r
   behind_all x (k ∷ ks) r = behind x k (behind_all (S.target x k) ks r)
@@ -76,7 +76,7 @@ module _ (S : System) (A : Axioms S) where
   beginning x [] ms p = tt
   beginning x (l ∷ ls) ms p = (p.0, beginning (S.target x l) ls ms p.1)
 
-  -- one path behind another
+  -- one path after another
   pub joined : (x : S.State) (ls ms : List S.Label) → IsPath S x ls → IsPath S (end_of S x ls) ms → IsPath S x (ls ++ ms)
   joined x [] ms p q = q
   joined x (l ∷ ls) ms p q = (p.0, joined (S.target x l) ls ms p.1 q)

@@ -119,7 +119,7 @@ step_behind P H i a j b l s t n =
       next_beside P H (event i a) (event j b) l s.1 t.1 n.0 n.1 n.2,
     )
 
--- neither of which needs the other
+-- two steps of which neither needs the other close to a square
 pub step_beside_step : (P : Program) (H : History) (i : StepId) (a : Action) (j : StepId) (b : Action) → LegalFor P H → Enabled P H (Step i a) → Enabled P H (Step j b) → Independent H (Step i a) (Step j b) → Square (runs P) H (Step i a) (Step j b)
 step_beside_step P H i a j b l s t n =
     let first = step_behind P H i a j b l s t n in
@@ -151,7 +151,7 @@ same_step i j H a k h =
     let n : i.k ≡ j.k = k ∙ ap (λ u. suc (length (own u H))) t ∙ sym (eqb-true j.k _ o.1) in
     λ x. record { task = t x; k = n x }
 
--- behind one undo the other can be taken, and what was undone doesn't need it
+-- after one undo the other can be taken, and what was undone doesn't need it
 module _ (P : Program) (H : History) (i : StepId) (a : Action) (j : StepId) (b : Action) (l : LegalFor P H) (s : Enabled P H (Undo i a)) (t : Enabled P H (Undo j b)) (d : i ≢ j) where
   abbrev G : History
   G = without i H

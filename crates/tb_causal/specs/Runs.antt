@@ -36,23 +36,25 @@ abbrev pub kth : ℕ → List Action → Option Action
 kth k [] = None
 kth k (a ∷ acts) = if k == suc (length acts) then Some a else kth k acts
 
--- a step is its task's next one by the program; what is undone stands in the history, with this action, and nothing there needs it
+-- a step is its task's next one by the program; what is undone is in the history, with this action,
+-- and nothing there needs it
 abbrev pub Enabled : Program → History → Label → Type 0
 Enabled P H (Step i a) = (i.k ≡ suc (length (own i.task H))) × IsNext P H (event i a)
 Enabled P H (Undo i a) = IsUnneeded i H × (kth i.k (own i.task H) ≡ Some a)
 
--- a step comes at the end; an undo takes its step out, wherever it stands
+-- a step comes at the end; an undo takes its step out, wherever it is
 abbrev pub target : History → Label → History
 target H (Step i a) = event i a ∷ H
 target H (Undo i a) = without i H
 
--- both start tasks that exclude each other
+-- the two events start tasks that exclude each other
 abbrev pub exclude : History → Event → Event → Bool
 exclude H v w = (is_start v.action && is_start w.action) && apart H v.task w.task
 
--- Two transitions from H are independent where neither takes from the other what it needs: of two steps neither directly
--- needs the other behind it, and they don't start tasks that exclude each other; a step doesn't directly need what is undone;
--- two undos are of different steps, of which neither directly needs the other
+-- Two transitions from H are independent where neither takes from the other what it needs: of two
+-- steps neither directly needs the other after it, and they don't start tasks that exclude each
+-- other; a step doesn't directly need what is undone; two undos are of different steps, of which
+-- neither directly needs the other
 abbrev pub Independent : History → Label → Label → Type 0
 Independent H (Step i a) (Step j b) =
     let v = event i a in

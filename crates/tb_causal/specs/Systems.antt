@@ -10,7 +10,7 @@ pub record System : Type 1 where
   pub Same : State → State → Type 0
   pub Label : Type 0
   pub Enabled : State → Label → Type 0
-  -- the state behind the transition
+  -- the state after the transition
   pub target : State → Label → State
   -- the label of the transition back
   pub inverse : Label → Label
@@ -20,13 +20,13 @@ pub record System : Type 1 where
   pub Independent : State → Label → Label → Type 0
 
 module _ (S : System) where
-  -- two transitions from one state can each be taken behind the other, and the two ways meet
+  -- two transitions from one state can each be taken after the other, and the two ways meet
   pub record Square (x : S.State) (l m : S.Label) : Type 0 where
     pub first : S.Enabled (S.target x l) m
     pub second : S.Enabled (S.target x m) l
     pub meet : S.Same (S.target (S.target x l) m) (S.target (S.target x m) l)
 
-  -- the labels are those of transitions that can be taken one behind the other
+  -- the labels are those of transitions that can be taken one after the other
   abbrev pub IsPath : S.State → List S.Label → Type 0
   IsPath x [] = ⊤
   IsPath x (l ∷ ls) = S.Enabled x l × IsPath (S.target x l) ls
@@ -46,8 +46,9 @@ module _ (S : System) where
   AreForward [] = ⊤
   AreForward (l ∷ ls) = IsFalse (S.is_backward l) × AreForward ls
 
-  -- the least equivalence of the paths from a state in which, behind a common beginning and in front of a common end,
-  -- independent neighbours change places, and a transition with its inverse cancels
+  -- the least equivalence of the paths from a state in which, after a common beginning and in front
+  -- of a common end, independent neighbours change places, and a transition with its inverse
+  -- cancels
   pub data CausallyEquivalent : S.State → List S.Label → List S.Label → Type 0 where
     same : (x : S.State) (ls : List S.Label) → CausallyEquivalent x ls ls
     turned : {x : S.State} {ls ms : List S.Label} → CausallyEquivalent x ls ms → CausallyEquivalent x ms ls

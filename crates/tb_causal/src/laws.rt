@@ -1,10 +1,10 @@
 //! The laws of steps and undos. Each is a sentence over the definitions alone, and a function's
 //! contract, since what no contract says stays unproved. A history is listed from its newest event.
 //!
-//! A state is a run of a program, as far as equivalence tells runs apart. A transition is a label
+//! A state is a run of a program, as far as equivalence distinguishes runs. A transition is a label
 //! that is enabled in a state: a step, which comes at the end of the run, or an undo, which takes a
-//! step out wherever it stands. Transitions are coinitial where they begin in one state, and paths
-//! are cofinal where they end in equivalent ones.
+//! step out wherever it is. Transitions are coinitial where they begin in one state, and paths are
+//! cofinal where they end in equivalent ones.
 
 ghost use Rattle.std.specs.Prelude.{◌≡◌, ◌≢◌, ◌↔◌, ◌≤◌, ℕ, suc, List, [], length, Some, None, IsTrue, IsFalse};
 ghost use Rattle.tb_model.specs.declared.action.Action.{Action};
@@ -51,7 +51,7 @@ pub fn loop_lemma()
 {}
 
 /// The square property (Lanese, Phillips and Ulidowski; Danos and Krivine's square lemma): two
-/// independent transitions from one state can each be taken behind the other, and the two ways end
+/// independent transitions from one state can each be taken after the other, and the two ways end
 /// in equivalent runs.
 pub fn square_property()
     ensures { (P : Program) (H : History) (l m : Label) → LegalFor P H →
@@ -66,7 +66,7 @@ pub fn backward_transitions_independent()
 {}
 
 /// Independence is symmetric and irreflexive, and coinitial independence propagates (Lanese,
-/// Phillips and Ulidowski): behind one of two independent transitions, the way back and the other
+/// Phillips and Ulidowski): after one of two independent transitions, the way back and the other
 /// one are independent.
 pub fn independence_propagates()
     ensures symmetric { (H : History) (l m : Label) → Independent H l m → Independent H m l }
@@ -101,7 +101,7 @@ pub fn causal_safety()
         Enabled P H (Undo i a) → first_needer i H ≡ None }
 {}
 
-/// Causal liveness: a step that stands can be undone once no step directly needs it any more.
+/// Causal liveness: a step that is there can be undone once no step directly needs it any more.
 pub fn causal_liveness()
     ensures { (P : Program) (H : History) (i : StepId) (a : Action) →
         kth i.k (own i.task H) ≡ Some a → ((j : StepId) → IsFalse (needs_in j i H)) →
@@ -111,7 +111,7 @@ pub fn causal_liveness()
 // What follows for paths.
 
 /// The parabolic lemma (Danos and Krivine): each path is causally equivalent to one that first
-/// undoes, and then only takes steps, and that is no longer.
+/// undoes, and then only executes steps, and that is no longer.
 pub fn parabolic_lemma()
     ensures { (P : Program) (H : History) (r : List Label) →
         LegalFor P H → IsPath (runs P) H r → Parabola (runs P) H r }

@@ -50,7 +50,7 @@ chosen_first e (v ∷ H) s = at (is_step e H v) refl (or_cases (is_step e H v) (
         ∙ ap (λ l. e ∷ reverse l) (sym (none_needs e H (none q)))
     at false q o more = ⊎_elim (λ h. absurd (false≢true (sym q ∙ h))) (λ h. longer a (more h)) o
 
--- what is answered of the cone
+-- what is answered of the dependents
 module _ (e : StepId) (G H : History) (steps : List StepId) (same : G ≡ H) (cone : steps ≡ reverse (removed_steps e G)) (there : IsTrue (stands e G)) where
   pub with_first : steps ≡ e ∷ reverse (needers e H)
   with_first = cone ∙ chosen_first e G there ∙ ap (λ X. e ∷ reverse (needers e X)) same

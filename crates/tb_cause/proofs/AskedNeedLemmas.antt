@@ -50,9 +50,9 @@ module _ (I : Name → List Item) (S : List Placed) where
       any_same_in (λ (r : Placed). needs r.front r.event u) (λ r. takes_any (gives I u) I r.front r.event) S each
       ∙ given_one_by_one taken taken_same taken_none taken_more w asked I u
 
--- ---- over entries
+-- ---- over stored steps
 
--- what r needs of the entries in front of this place is told by keys
+-- what r needs of the stored steps in front of this index is known by keys
 abbrev pub IsToldByKeys : List Entry → ℕ → Placed → Type 0
 IsToldByKeys entries left r = (q : ℕ) (x : Entry) → q < left → x ≡ get_or entries q x → needs r.front r.event x.event ≡ takes_any (gives (items_told entries) x.event) (items_told entries) r.front r.event
 
@@ -60,7 +60,7 @@ all_more : {A : Type 0} (P : A → Type 0) (xs : List A) (x : A) → AllByRecurs
 all_more P [] x h p = (p, tt)
 all_more P (y ∷ ys) x h p = (h.0, all_more P ys x h.1 p)
 
--- an end is one of the history behind it
+-- an end is one of the history after it
 pub ends_in_front : (entries : List Entry) (p q : ℕ) (x : Entry) → p < length entries → q < p → x ≡ get_or entries q x → EndsIn (history_of (take p entries)) x.event
 ends_in_front entries p q x within lower here z =
     ap (list_any (ends x.event.task)) (history_cut (take p entries) q x (omega (arith, lower, length-take-le p entries (omega (arith, within)))) (here ∙ sym (get_or-take p entries q x lower)))
@@ -89,7 +89,7 @@ module _ (entries : List Entry) (legal : AreLegal entries) where
   pub told_on : (left p : ℕ) (places : List ℕ) → p < left → AllByRecursion (IsToldByKeys entries left) (placed_at entries places) → AllByRecursion (IsToldByKeys entries p) (placed_at entries places)
   told_on left p places lower so_far = all_weaker (IsToldByKeys entries left) (IsToldByKeys entries p) (λ r h q x l. h q x (omega (arith, l, lower))) (placed_at entries places) so_far
 
-  -- the entry at a place in front of all those found
+  -- the stored step at an index in front of all those found
   pub asked_is_needed : (left p : ℕ) (places : List ℕ) (x : Entry) (w : Key → Bool) → p < left → x ≡ get_or entries p x → AreAskedAt entries places w → AllByRecursion (IsToldByKeys entries left) (placed_at entries places)
       → some_needs (placed_at entries places) x.event ≡ gives_any w (items_told entries) x.event
   asked_is_needed left p places x w lower here asked so_far =

@@ -57,7 +57,7 @@ IsFound entries at left places =
     map (step_at entries) places ++ somes (causes_by_pass (placed_at entries (at ∷ places)) (history_of (take left entries)))
     ≡ somes (causes_by_pass (placed_at entries (at ∷ [])) (history_of (take at entries)))
 
--- one entry more
+-- one stored step more
 module _ (entries : List Entry) (at p left : ℕ) (next : left ≡ p + 1) (places : List ℕ) (e : Entry) (within : p < length entries) (here : e ≡ get_or entries p e) (found : IsFound entries at left places) where
   abbrev S : List Placed
   S = placed_at entries (at ∷ places)
@@ -118,7 +118,7 @@ all_reversed P [] h = h
 all_reversed P (x ∷ xs) h =
     subst (All P) (sym (reverse-append (x ∷ []) xs)) (All-push P (reverse xs) x (all_reversed P xs (λ i d l. h (suc i) d (omega (arith, l)))) (h 0 x (omega arith)))
 
--- the pass tells the causes in the order of the history
+-- the pass says the causes in the order of the history
 pub causes_told : (entries : List Entry) (at left : ℕ) (places places' : List ℕ) → left ≡ 0 → at < length entries → IsFound entries at left places → All (λ p. p < length entries) places
     → places' ≡ reverse places → AreCausesAt entries at places'
 causes_told entries at left places places' none within found inside turned = record {
@@ -128,12 +128,12 @@ causes_told entries at left places places' none within found inside turned = rec
   inside = subst (All (λ p. p < length entries)) (sym turned) (all_reversed (λ p. p < length entries) places inside);
 }
 
--- the names are those of the places
+-- the names are those of the indexes
 pub causes_named : (entries : List Entry) (at : ℕ) (places : List ℕ) (steps : List StepId) → AreCausesAt entries at places → somes steps ≡ map (step_at entries) places
     → (step : StepId) → step_at entries at ≡ Some step → steps ≡ reverse (causes_of step (history_of entries))
 causes_named entries at places steps found named step is = somes_same steps (reverse (causes_of step (history_of entries))) (named ∙ found.names step is)
 
--- what stands behind the step makes no difference
+-- what is after the step makes no difference
 pub causes_in_front : (entries : List Entry) (at : ℕ) (steps : List StepId) → at < length entries
     → ((step : StepId) → step_at (take (at + 1) entries) at ≡ Some step → steps ≡ reverse (causes_of step (history_of (take (at + 1) entries))))
     → (step : StepId) → step_at entries at ≡ Some step → steps ≡ reverse (causes_of step (history_of entries))

@@ -1,4 +1,4 @@
--- The pass that finds what a step needs, entry by entry.
+-- The pass that finds what a step needs, stored step by stored step.
 use Rattle.std.proofs.Common.{◌≡◌, ◌<◌, ◌≤◌, ◌+◌, ◌-◌, ℕ, List, [], ◌∷◌, ◌++◌, Bool, true, false, ◌||◌, length, take, get_or, refl, sym, ap, ◌∙◌, subst, arith}
 use Rattle.std.specs.List.{All, AllByRecursion}
 use Rattle.tb_model.specs.Causes.{some_needs}
@@ -33,7 +33,7 @@ module _ (entries : List Entry) (legal : AreLegal entries) (at : ℕ) (behind : 
         within = omega arith;
       })
 
-  -- one entry more
+  -- one stored step more
   module _ (left : ℕ) (places : List ℕ) (f : Key → Bool) (passed : IsPassed entries at left places f) (above : 0 < left)
       (b : Bool) (met : (w : Entry) → w ≡ get_or entries (left - 1) w → b ≡ gives_any f (items_told entries) w.event) where
     abbrev p : ℕ

@@ -25,7 +25,7 @@ use Rattle.tb_cause.specs.Chains.{AreAllFound, IsCone, events_at}
 
 -- ---- what is found so far
 
--- of the entries in front of later, these are e and all that need it; e is among them
+-- of the stored steps in front of later, these are e and all that need it; e is among them
 pub record Found (e : StepId) (entries : List Entry) (later : ℕ) (places : List ℕ) : Type 0 where
   pub their_places : places ≡ reverse (removed_places e (history_of (take later entries)))
   pub their_names : map (step_at entries) places ≡ map (λ (s : StepId). Some s) (reverse (removed_steps e (history_of (take later entries))))
@@ -86,7 +86,7 @@ module _ (entries : List Entry) (at : ℕ) (u : Entry) (within : at < length ent
       events_are : u.event ∷ [] ≡ reverse (removed itself (u.event ∷ F))
       events_are = sym (ap₂ (λ b R. reverse (prepend_if b u.event R)) g none)
 
--- an entry is read alike whatever stands for none
+-- a stored step is read alike whatever means none
 pub one_entry : (entries : List Entry) (at : ℕ) (d e : Entry) → at < length entries → d ≡ get_or entries at d → e ≡ get_or entries at e → get_or entries at d ≡ e
 one_entry entries at d e within first second =
     sym first ∙ some_same d e (sym (slice_get_read entries (length entries) at d refl within first) ∙ slice_get_read entries (length entries) at e refl within second)
@@ -99,7 +99,7 @@ found_first entries at e within is places one_place =
     let found = subst (λ i. Found i entries (at + 1) (at ∷ [])) same (found_itself entries at u.0 within u.1) in
     subst (λ p. Found e entries (at + 1) p) (sym one_place) found
 
--- one entry more
+-- one stored step more
 module _ (e : StepId) (entries : List Entry) (later : ℕ) (places : List ℕ) (w : Entry) (within : later < length entries) (here : w ≡ get_or entries later w) (so_far : Found e entries later places) where
   abbrev H : History
   H = history_of (take later entries)
@@ -176,7 +176,7 @@ found_all e entries later places end found =
       names = found.their_names ∙ ap (λ X. map (λ (s : StepId). Some s) (reverse (removed_steps e (history_of X)))) all;
     }
 
--- named, they are the cone
+-- named, they are the dependents
 pub named_cone : (e : StepId) (entries : List Entry) (c : Cone) → AreAllFound e entries c.places.items → map (λ (s : StepId). Some s) c.steps.items ≡ map (step_at entries) c.places.items → IsCone e (history_of entries) c
 named_cone e entries c found named = record {
   places = found.places;

@@ -23,7 +23,7 @@ writes_count old new t k is writes u = at (same_name t u) refl
     at true e = ap (λ o. unwrap_or o 0) (writes u ∙ ap (λ b. cond b (Some k) (get same_name old u)) e) ∙ is
     at false e = ap (λ o. unwrap_or o 0) (writes u ∙ ap (λ b. cond b (Some k) (get same_name old u)) e)
 
--- ---- a count that stands at a place
+-- ---- a count that is at an index
 
 -- the name there is the task's
 pub key_in : (es : Counts) (i : ℕ) (k t : Name) (v : ℕ) → slice_get es i ≡ Some (k, v) → same_name k t ≡ true → slice_get (keys_of es) i ≡ Some t

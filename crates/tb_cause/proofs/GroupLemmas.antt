@@ -18,7 +18,8 @@ some_open (us ∷ uss) = true
 abbrev pub member_of_first : Bool → List (List Name) → (Name → Bool) → Bool
 member_of_first found gs f = (some_open gs && found) || list_any f (innermost gs)
 
--- a child passes of the innermost group that stays open where so many more are closed behind these actions
+-- a child passes of the innermost group that stays open where so many more are closed after these
+-- actions
 abbrev pub member_behind : ℕ → Bool → List Action → (Name → Bool) → Bool
 member_behind closed found acts f = member_of_first found (drop closed (groups acts)) f
 
@@ -29,7 +30,7 @@ none_found (us ∷ uss) f = refl
 pub at_first : (acts : List Action) (f : Name → Bool) → member_behind 0 false acts f ≡ list_any f (innermost (groups acts))
 at_first acts f = none_found (groups acts) f
 
--- nothing is open behind no actions
+-- nothing is open after no actions
 pub at_last : (closed : ℕ) (found : Bool) (f : Name → Bool) → member_behind closed found [] f ≡ false
 at_last zero found m = refl
 at_last (suc k) found m = refl

@@ -87,7 +87,7 @@ module _ (cells : Cells) (H : History) (legal : Legal cells H) (u : Name) (ended
   ended_spawned = acted_spawned cells H u legal acted
 
   module _ (t : Name) (fresh : own t H ≡ []) where
-    -- who has ended doesn't come behind who hasn't started
+    -- who has ended doesn't come after who hasn't started
     not_behind : before H t u ≡ false
     not_behind = at (before H t u) refl
       where
@@ -162,7 +162,7 @@ module _ (cells : Cells) (H : History) (legal : Legal cells H) (n : ℕ) (p : Na
   siblings [] ended = refl
   siblings (m ∷ q) ended = its_siblings m q ended
 
--- what an event waits for by items is told by what they are
+-- what an event waits for by items is known by what they are
 module _ (cells : Cells) (H : History) (legal : Legal cells H) (I : Name → List AnItem) (settled : (w : Name) → IsSpawned H w → I w ≡ items_of w H) (u : Name) (ended : HasEnded H u) where
   iu : I u ≡ items_of u H
   iu = settled u (ended_spawned cells H legal u ended)

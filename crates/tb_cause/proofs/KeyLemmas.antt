@@ -190,7 +190,7 @@ takes_none I H v =
     ap₂ (λ a b. a || b) (held_none (held_by (own v.task H)))
     (ap₂ (λ a b. a || b) (action_none v.action) (ap₂ (λ a b. a || b) (wait_none H v.task v.action) (items_none I v.task v.action)))
 
--- keys that are told alike are taken alike
+-- keys that are known alike are asked for alike
 module _ (f g : Key → Bool) (same : (k : Key) → f k ≡ g k) where
   held_same : (o : Option Name) → held_any f o ≡ held_any g o
   held_same None = refl

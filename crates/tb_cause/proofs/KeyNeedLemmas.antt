@@ -1,4 +1,4 @@
--- An event needs an earlier one where it takes a key of it.
+-- An event needs an earlier one where it asks for a key of it.
 use Rattle.std.proofs.Common.{◌≡◌, ℕ, ◌+◌, ◌==◌, List, [], ◌∷◌, Bool, true, false, ◌&&◌, ◌||◌, not, cond, Some, None, refl, sym, ap, ap₂, ◌∙◌}
 use Rattle.std.specs.List.{list_any, AllByRecursion}
 use Rattle.tb_model.specs.declared.action.Action.{Action}
@@ -19,7 +19,7 @@ use Rattle.tb_cause.proofs.KeyLemmas.{any_or, any_swap, any_and, and_none, and_m
 
 -- ---- items
 
--- what the items of one kind are asked for at this place
+-- what the items of one kind are asked for at this index
 abbrev hit : Place → ℕ → AnItem → Bool
 hit (Cell c) m j = item_key m c j || item_key (m + 2) 0 j
 hit All m j = item_key (m + 1) 0 j || item_key (m + 2) 0 j
@@ -47,7 +47,7 @@ module _ (test : Kind → Bool) where
   cells : (c d : ℕ) (k : Kind) → ((((d == c) || false) || false) && test k || false) ≡ ((c == d) && test k)
   cells c d k = at_cell (d == c) (test k) ∙ ap (λ b. b && test k) (eq_turned d c)
 
-  -- an item of this kind is found by its own number alone
+  -- an item of this kind is found by its own code alone
   found_by : (p : Place) (k : Kind) (q : Place) → asked p k q ≡ met p k q
   found_by (Cell c) In (Cell d) = cells c d In
   found_by (Cell c) Out (Cell d) = cells c d Out

@@ -95,7 +95,7 @@ module _ (entries : List Entry) (later : ℕ) (w : Entry) (within : later < leng
       sym (items_of_spawn legal.cells (history_of entries) t legal.legal) ∙ ap (items_of t) whole
       ∙ items_settled legal.cells (behind ++ w.event ∷ []) H t (subst (Legal legal.cells) whole legal.legal) s
 
-  -- what of the history the entry needs is told by keys
+  -- what of the history the stored step needs is known by keys
   pub told_by_keys : (u : Event) → EndsIn H u → needs H w.event u ≡ takes_any (gives I u) I H w.event
   told_by_keys u ended = needed_by_keys I H w.event u (λ z. by_items legal.cells H legal_here.0 I settled u.task (ended z) w.event.task w.event.action legal_here.1)
 
@@ -113,6 +113,6 @@ module _ (entries : List Entry) (later : ℕ) (w : Entry) (within : later < leng
     among : (p : Event → Bool) → list_any p (events_at entries places) ≡ list_any p (removed e H)
     among p = ap (list_any p) so_far.their_events ∙ sym (list_any-IsPermutation p (removed e H) (reverse (removed e H)) (IsPermutation-reverse (removed e H)))
 
-    -- the next event needs one of those found where it takes a key that they give
+    -- the next event needs one of those found where it asks for a key that they give
     pub taken_is_needed : (f : Key → Bool) → AreGivenAt entries places f → (b : Bool) → b ≡ takes_any f I H w.event → list_any (needs H w.event) (events_at entries places) ≡ b
     taken_is_needed f given b is = among (needs H w.event) ∙ needs_of_given I H w.event (removed e H) f (λ k. given k ∙ among (λ u. gives I u k)) each ∙ sym is

@@ -47,14 +47,14 @@ module _ (entries : List Entry) where
       ap (list_any test) (cut_at entries n q x lower i here) ∙ list_any-append test D (x.event ∷ history_of (take q entries))
       ∙ or_right (list_any test D) _ (or_left (test x.event) (list_any test (history_of (take q entries))) h)
 
-  -- the entry at the place that is noted generates the task
+  -- the stored step at the index that is noted generates the task
   generates : (t : Name) (b : ℕ) → spawn_of t (history_of entries) ≡ placed_action entries (Some b) → b < length entries → (y : Entry) → y ≡ get_or entries b y → spawns t y.event ≡ true
   generates t b is within y here =
       spawn_found t (history_of entries) y.event.action
       (is ∙ ap (λ (o : Option Entry). option_map (λ (e : Entry). e.event.action) o) (slice_get_read entries (length entries) b y refl within here))
 
   module _ (legal : AreLegal entries) where
-    -- no two entries generate one task
+    -- no two stored steps generate one task
     twice : (t : Name) (p q : ℕ) (x y : Entry) → p < q → q < length entries → x ≡ get_or entries p x → y ≡ get_or entries q y → spawns t x.event ≡ true → spawns t y.event ≡ true → ⊥
     twice t p q x y lower within here there_is first second =
         let l = legal_here entries q y within there_is legal in

@@ -1,4 +1,4 @@
--- The names of steps at some places, and the numbers of all steps.
+-- The names of steps at some indexes, and the ordinals of all steps.
 use Rattle.std.proofs.Common.{◌≡◌, ◌<◌, ◌≤◌, ◌+◌, ℕ, suc, List, [], ◌∷◌, ◌++◌, Bool, true, false, cond, refl, sym, ap, ap₂, ◌∙◌, arith, length, map, take, Option, Some, get_or, length-append, nat_eq}
 use Rattle.std.proofs.lemmas.Bool.{eqb-true, eq-eqb}
 use Rattle.std.proofs.lemmas.List.{map-append, take_more, get_or_append_left, get_or-append-add}
@@ -21,7 +21,7 @@ named_more entries places i d steps steps' id within so_far here more =
     ∙ ap₂ (λ a (b : Option StepId). a ++ b ∷ []) so_far (sym here)
     ∙ sym (ap (map (step_at entries)) (take_more places i d within) ∙ map-append (step_at entries) (take i places) (get_or places i d ∷ []))
 
--- ---- numbers
+-- ---- ordinals
 
 own_short : (t : Name) (H : History) → length (own t H) ≤ length H
 own_short t [] = omega arith

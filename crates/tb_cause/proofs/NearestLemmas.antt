@@ -66,9 +66,9 @@ first : {F G : History} → Needs F G → (n : ℕ) → suc n ≤ length G → F
 first (directly v u b front h) n l = record { who = u; front = front; between = b; split = refl; young = omega (arith, l); direct = h }
 first (by_way f g) n l = first f n (omega (arith, l, older g))
 
--- ---- events by their places
+-- ---- events by their indexes
 
--- the event stands at a place among the first n entries, behind this history
+-- the event is at an index among the first n stored steps, after this history
 record At (entries : List Entry) (n : ℕ) (who : Event) (front : History) : Type 0 where
   place : ℕ
   entry : Entry
@@ -111,11 +111,11 @@ at_place entries (suc n) i b who front e = cases b (sym more ∙ e) (at_place en
         let a = lower b who front (list_tail w.0.event c (history_of (take n entries)) (b ++ who ∷ front) h) in
         record { place = a.place; entry = a.entry; lower = omega (arith, a.lower); here = a.here; event = a.event; its_front = a.its_front }
 
--- one entry stands at a place
+-- one stored step is at an index
 pub at_one : (entries : List Entry) (p : ℕ) (x w : Entry) → p < length entries → x ≡ get_or entries p x → w ≡ get_or entries p w → x ≡ w
 at_one entries p x w within first second = first ∙ one_entry entries p x w within first second
 
--- the first n entries, cut at one of them
+-- the first n stored steps, cut at one of them
 pub cut_at : (entries : List Entry) (n p : ℕ) (w : Entry) → p < n → n ≤ length entries → w ≡ get_or entries p w
     → history_of (take n entries) ≡ history_of (drop (suc p) (take n entries)) ++ w.event ∷ history_of (take p entries)
 cut_at entries n p w lower i here =
@@ -187,7 +187,7 @@ module _ (entries : List Entry) (at : ℕ) (within : at < length entries) (v : E
     cut : F ≡ history_of (drop (suc p) (take at entries)) ++ w.event ∷ K
     cut = cut_at entries at p w low (omega (arith, within)) here
 
-    -- some of those found needs the entry, where anything does that v needs
+    -- some of those found needs the stored step, where anything does that v needs
     some_last : Last (v ∷ F) w.event K → some_needs S w.event ≡ true
     some_last l =
         let t = complete l.reached in
@@ -218,7 +218,7 @@ module _ (entries : List Entry) (at : ℕ) (within : at < length entries) (v : E
         let o = some_of (IsFound entries at v left) S w.event found.sound s in
         by_way o.holds.needed (needed_by left p w o.who (omega (arith, next)) here o.holds o.direct)
 
-    -- the entry is needed
+    -- the stored step is needed
     pub found_more : (needs F v w.event ≡ true) ⊎ (some_needs S w.event ≡ true) → (T : List Placed) → T ≡ S ++ record { event = w.event; front = K } ∷ [] → AreFound entries at v p T
     found_more is T more = subst (AreFound entries at v p) (sym more) (record {
       sound = all_put (IsFound entries at v left) (IsFound entries at v p) (lowered left p (omega (arith, next))) S r found.sound (record { place = p; after = omega arith; before = low; its_front = refl; needed = needed_here is });
@@ -258,7 +258,7 @@ module _ (entries : List Entry) (at : ℕ) (within : at < length entries) (v : E
                 d s)
             at_it (inr d) = found.complete q x (omega (arith, next, after, d)) before there n u h
 
-    -- ---- whether the entry is needed immediately
+    -- ---- whether the stored step is needed immediately
 
     pub is_near : needs F v w.event ≡ true → some_needs S w.event ≡ false → is_some (cause F v K w.event) ≡ true
     is_near d s =

@@ -1,4 +1,4 @@
--- The pass that finds what a step needs immediately, entry by entry.
+-- The pass that finds what a step needs immediately, stored step by stored step.
 use Rattle.std.proofs.Common.{◌≡◌, inl, inr, ⊎_elim, ◌<◌, ◌≤◌, ◌+◌, ◌-◌, ℕ, List, [], ◌∷◌, ◌++◌, Bool, true, false, ◌&&◌, ◌||◌, not, cond, length, take, reverse, get_or, is_some, refl, sym, ap, ◌∙◌, subst, arith, append-nil}
 use Rattle.std.specs.List.{AllByRecursion}
 use Rattle.std.proofs.lemmas.Bool.{or_cases, both_ways}
@@ -26,7 +26,7 @@ or_none : (b : Bool) → (b || false) ≡ b
 or_none true = refl
 or_none false = refl
 
--- what the pass knows when it has come down to left: it keeps these, and f are their keys
+-- what the pass knows when it has come down to left: it retains these, and f are their keys
 pub record IsPassed (entries : List Entry) (at left : ℕ) (kept places : List ℕ) (f : Key → Bool) : Type 0 where
   pub found : (v : Entry) → v ≡ get_or entries at v → AreFound entries at v.event left (placed_at entries kept)
   pub asked : AreAskedAt entries kept f
@@ -68,7 +68,7 @@ module _ (entries : List Entry) (legal : AreLegal entries) (at : ℕ) (within : 
     needs_own : needs F v.event w.event ≡ by_own
     needs_own = own_needs v isv g own p w low here
 
-    -- the entry is needed immediately where it is needed directly alone
+    -- the stored step is needed immediately where it is needed directly alone
     near_is : is_some (cause F v.event (history_of (take p entries)) w.event) ≡ (not by_found && by_own)
     near_is = cases by_found by_own found_needs needs_own
       where
@@ -91,7 +91,7 @@ module _ (entries : List Entry) (legal : AreLegal entries) (at : ℕ) (within : 
         cases false true s d z = absurd (both_ways true z refl)
         cases false false s d z = found_on entries at within v.event left p next low w here S so_far d s
 
-  -- ---- the first entry and the last
+  -- ---- the first stored step and the last
 
   so_far_first : (bottom top : ℕ) → top ≤ at → IsReach entries at bottom top → (places : List ℕ) → places ≡ [] → AreSoFar entries at top places
   so_far_first bottom top l reach places none v isv =
@@ -134,7 +134,7 @@ module _ (entries : List Entry) (legal : AreLegal entries) (at : ℕ) (within : 
               (asked_is_needed entries legal left p kept w f i here passed.asked passed.told
               ∙ answered_given f I w.event F v.event (are v isv) (sym (told_at entries legal at v within isv p w low here) ∙ d))
 
-  -- ---- one entry more
+  -- ---- one stored step more
 
   pub passed_first : (bottom top : ℕ) → top ≤ at → IsReach entries at bottom top → (kept places : List ℕ) → kept ≡ [] → places ≡ [] → (f : Key → Bool) → ((k : Key) → f k ≡ false) → IsPassed entries at top kept places f
   passed_first bottom top l reach kept places no_kept no_places f none = record {
@@ -186,7 +186,7 @@ module _ (entries : List Entry) (legal : AreLegal entries) (at : ℕ) (within : 
       within = omega (arith, low);
     }
 
--- what stands behind the step makes no difference
+-- what is after the step makes no difference
 pub nearest_in_front : (entries : List Entry) (at : ℕ) (places : List ℕ) → at < length entries → AreNearest (take (at + 1) entries) at places → AreNearest entries at places
 nearest_in_front entries at places within told v isv =
     told v (isv ∙ sym (get_or-take (at + 1) entries at v (omega arith)))

@@ -1,4 +1,4 @@
--- Entries that are left out take none of the keys.
+-- Stored steps that are left out take none of the keys.
 use Rattle.std.proofs.Common.{◌≡◌, ◌⊎◌, inl, inr, ⊎_elim, ◌<◌, ◌≤◌, ◌+◌, ◌-◌, ℕ, zero, suc, List, [], ◌∷◌, Bool, true, false, ◌&&◌, ◌||◌, not, Option, Some, None, length, take, get_or, slice_get, if◌then◌else◌, refl, sym, ap, ◌∙◌, subst, arith}
 use Rattle.std.specs.List.{list_any}
 use Rattle.std.proofs.lemmas.Bool.{or_cases, or_left, or_right, and_parts, both_ways, eq-eqb, false≢true}
@@ -171,7 +171,7 @@ module _ (f : Key → Bool) (none : HasNoItems f) where
   no_items_taken I [] Fault = refl
   no_items_taken I (n ∷ p) Fault = refl
 
--- ---- an entry that is left out
+-- ---- a stored step that is left out
 
 module _ (entries : List Entry) (legal : AreLegal entries) (places : List ℕ) (f : Key → Bool) (given : AreGivenAt entries places f) (bare : HasNoItems f) (k : ℕ) (e : Entry) (within : k < length entries) (here : e ≡ get_or entries k e)
     (task : (t : Name) → f (Task t) ≡ true → is_of t e.event ≡ false) (parent : (p u : Name) → f (Within u) ≡ true → is_child p u ≡ true → is_of p e.event ≡ false)
@@ -292,7 +292,7 @@ module _ (entries : List Entry) (legal : AreLegal entries) (places : List ℕ) (
         (λ d x. touched.none d x k e l (omega (arith, h, high)) here) (λ x. printed x k e l h here);
   }
 
--- what takes no key isn't found
+-- what asks for no key isn't found
 module _ (e : StepId) (entries : List Entry) (legal : AreLegal entries) (places : List ℕ) (f : Key → Bool) (given : AreGivenAt entries places f) where
   found_on : (later k : ℕ) → later + k ≤ length entries → ((j : ℕ) (w : Entry) → later ≤ j → j < later + k → w ≡ get_or entries j w → takes_any f (items_told entries) (history_of (take j entries)) w.event ≡ false)
       → Found e entries later places → Found e entries (later + k) places

@@ -14,7 +14,8 @@ use Rattle.tb_cause.specs.Indexes.{placed_action}
 use Rattle.tb_cause.specs.Keys.{held_by}
 use Rattle.tb_steps.proofs.FirstLemmas.{there}
 
--- where none of the entries from a place on is the task's, it has the actions that it had there
+-- where none of the stored steps from an index on is the task's, it has the actions that it had
+-- there
 own_stays : (entries : List Entry) (t : Name) (from k : ℕ) → from + k ≤ length entries → IsNoneBetween (is_of t) entries from (from + k)
     → own t (history_of (take (from + k) entries)) ≡ own t (history_of (take from entries))
 own_stays entries t from zero within none = ap (λ n. own t (history_of (take n entries))) (omega arith)
@@ -48,20 +49,21 @@ module _ (entries : List Entry) (at : ℕ) (e : Entry) (within : at < length ent
   pub none_own : IsNoneBetween (is_of t) entries 0 at → own t (history_of (take at entries)) ≡ []
   none_own none = own_upto entries t 0 at (omega arith) (omega (arith, within)) none
 
--- the task read at a place, and the entries in front of it, hold as the entry there does
+-- the task read at an index, and the stored steps in front of it, hold as the stored step there
+-- does
 pub held_here : (entries : List Entry) (at : ℕ) → at < length entries → (t : Name) → ((e : Entry) → e ≡ get_or entries at e → t ≡ e.event.task) → (front : List Entry) → front ≡ take at entries → (o : Option Name)
     → ((e : Entry) → e ≡ get_or entries at e → o ≡ held_by (own e.event.task (history_of (take at entries)))) → o ≡ held_by (own t (history_of front))
 held_here entries at within t read front cut o told =
     let w = there entries at within in
     told w.0 w.1 ∙ sym (ap₂ (λ (u : Name) (es : List Entry). held_by (own u (history_of es))) (read w.0 w.1) cut)
 
--- the task read at a place was generated
+-- the task read at an index was generated
 pub spawned_here : (entries : List Entry) (at : ℕ) → at < length entries → (t : Name) → ((e : Entry) → e ≡ get_or entries at e → t ≡ e.event.task) → AreLegal entries → IsSpawned (history_of entries) t
 spawned_here entries at within t read legal =
     let w = there entries at within in
     subst (IsSpawned (history_of entries)) (sym (read w.0 w.1)) (spawned_in entries at w.0 within w.1 legal)
 
--- ---- the spawn of a task, looked for from the newest entry on
+-- ---- the spawn of a task, looked for from the newest stored step on
 
 module _ (entries : List Entry) (t : Name) (left : ℕ) (e : Entry) (within : left < length entries) (here : e ≡ get_or entries left e) (same : spawn_of t (history_of (take (left + 1) entries)) ≡ spawn_of t (history_of entries)) where
   step : spawn_of t (history_of (take (left + 1) entries)) ≡ cond (is_spawn_of t e.event.action) (Some e.event.action) (spawn_of t (history_of (take left entries)))

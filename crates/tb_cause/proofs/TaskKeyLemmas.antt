@@ -1,4 +1,4 @@
--- Whether there is a key of an entry's task, told from one entry to the next.
+-- Whether there is a key of a stored step's task, known from one stored step to the next.
 use Rattle.std.proofs.Common.{◌≡◌, ◌<◌, ◌+◌, ◌-◌, ℕ, List, Bool, true, false, ◌||◌, get_or, length, refl, sym, ap, ◌∙◌, subst, arith}
 use Rattle.std.proofs.lemmas.Bool.{or_left}
 use Rattle.tb_model.specs.declared.item.Item.{Item as AnItem}
@@ -10,7 +10,7 @@ use Rattle.tb_cause.specs.Asked.{asks, same_key}
 use Rattle.tb_cause.specs.Keys.{Key, Task, Ended, Parent, Within, Item, Stored, Touched, Printed, IsOfTask, gives, own_key}
 use Rattle.tb_steps.proofs.FirstLemmas.{there}
 
--- two entries of one task
+-- two stored steps of one task
 pub of_same_task : (entries : List Entry) (p q : ℕ) (f : Key → Bool) (b : Bool) → p < length entries → IsOfTask entries p f b
     → ((e d : Entry) → e ≡ get_or entries q e → d ≡ get_or entries p d → is_of e.event.task d.event ≡ true) → IsOfTask entries q f b
 of_same_task entries p q f b within of same e is =
@@ -45,13 +45,13 @@ own_is_key t Printed = refl
 pub key_known : (t : Name) (f : Key → Bool) → f (Task t) ≡ true → (k : Key) → f k ≡ (same_key (Task t) k || f k)
 key_known t f known k = own_known t f known k ∙ ap (λ b. b || f k) (own_is_key t k)
 
--- an entry that gives its keys gives that of its task
+-- a stored step that gives its keys gives that of its task
 pub of_given : (entries : List Entry) (p : ℕ) (I : Name → List AnItem) (f f' : Key → Bool) → ((k : Key) (e : Entry) → e ≡ get_or entries p e → f' k ≡ (gives I e.event k || f k)) → IsOfTask entries p f' true
 of_given entries p I f f' keys e is =
     let k = Task e.event.task in
     sym (keys k e is ∙ or_left (gives I e.event k) (f k) (or_left (own_key e.event.task k) _ (same_refl e.event.task)))
 
--- an entry that asks for its keys asks for that of its task
+-- a stored step that asks for its keys asks for that of its task
 pub of_asked : (entries : List Entry) (p : ℕ) (I : Name → List AnItem) (H : History) (f f' : Key → Bool) → ((k : Key) (e : Entry) → e ≡ get_or entries p e → f' k ≡ (asks I H e.event k || f k)) → IsOfTask entries p f' true
 of_asked entries p I H f f' keys e is =
     let k = Task e.event.task in
@@ -61,6 +61,6 @@ of_asked entries p I H f f' keys e is =
 pub known_at : (entries : List Entry) (p : ℕ) (f : Key → Bool) (b : Bool) → IsOfTask entries p f b → b ≡ true → IsOfTask entries p f true
 known_at entries p f b of h e is = sym h ∙ of e is
 
--- it is known of the entry in front of the next
+-- whether there is a key of the task is known of the stored step in front of the next
 pub placed_on : (entries : List Entry) (p : ℕ) (f : Key → Bool) (b : Bool) → IsOfTask entries p f b → IsOfTask entries ((p + 1) - 1) f b
 placed_on entries p f b = subst (λ n. IsOfTask entries n f b) (omega arith)

@@ -29,7 +29,7 @@ same_key (Touched c) (Touched d) = nat_eq c d
 same_key Printed Printed = true
 same_key _ _ = false
 
--- v takes the key behind H
+-- v asks for the key after H
 abbrev pub asks : (Name → List AnItem) → History → Event → Key → Bool
 asks I H v k = takes_any (λ a. same_key a k) I H v
 
@@ -45,7 +45,7 @@ new_items_key p starts items _ = false
 
 -- ---- some key passes the test
 
--- that an action gives
+-- some key passes that an action gives
 abbrev pub action_gives : (Key → Bool) → Action → Bool
 action_gives f (Spawn s) = f (Task s.child)
 action_gives f (Load r c x) = f (Touched c)
@@ -53,7 +53,7 @@ action_gives f (Store c x) = f (Stored c) || f (Touched c)
 action_gives f (Print x) = f Printed
 action_gives f _ = false
 
--- that the end of a task gives
+-- some key passes that the end of a task gives
 abbrev pub parent_gives : (Key → Bool) → Name → Bool
 parent_gives f [] = false
 parent_gives f (n ∷ p) = f (Parent p)
@@ -66,7 +66,7 @@ some_above p (n ∷ m) = p (n ∷ m) || some_above p m
 abbrev pub over_gives : (Key → Bool) → Name → Bool
 over_gives f w = f (Ended w) || (parent_gives f w || some_above (λ s. f (Within s)) w)
 
--- that an item of a child of p gives, of the kind with this number
+-- some key passes that an item of a child of p gives, of the kind with this code
 abbrev pub place_gives : (Key → Bool) → Name → ℕ → Place → Bool
 place_gives f p m (Cell c) = f (Item p m c) || f (Item p (m + 1) 0)
 place_gives f p m Everywhere = f (Item p (m + 2) 0)
@@ -74,22 +74,22 @@ place_gives f p m Everywhere = f (Item p (m + 2) 0)
 abbrev pub item_gives : (Key → Bool) → Name → AnItem → Bool
 item_gives f p j = place_gives f p (kind_number j.kind) j.place
 
--- that the end of a task gives by its items
+-- some key passes that the end of a task gives by its items
 abbrev pub items_give : (Key → Bool) → Name → List AnItem → Bool
 items_give f [] items = false
 items_give f (n ∷ p) items = list_any (item_gives f p) items
 
--- that an event gives
+-- some key passes that an event gives
 abbrev pub gives_any : (Key → Bool) → (Name → List AnItem) → Event → Bool
 gives_any f I u = f (Task u.task) || (action_gives f u.action || (is_end u.action && (over_gives f u.task || items_give f u.task (I u.task))))
 
--- ---- over entries
+-- ---- over stored steps
 
--- these are the keys that the events at these places ask for
+-- these are the keys that the events at these indexes ask for
 abbrev pub AreAskedAt : List Entry → List ℕ → (Key → Bool) → Type 0
 AreAskedAt entries places f = (k : Key) → f k ≡ list_any (λ r. asks (items_told entries) r.front r.event k) (placed_at entries places)
 
--- these are the places of the steps that the one at this place needs
+-- these are the indexes of the steps that the one at this index needs
 pub record AreCausesAt (entries : List Entry) (at : ℕ) (places : List ℕ) : Type 0 where
   pub names : (step : StepId) → step_at entries at ≡ Some step → map (step_at entries) places ≡ map (λ (s : StepId). Some s) (reverse (causes_of step (history_of entries)))
   pub inside : All (λ p. p < length entries) places

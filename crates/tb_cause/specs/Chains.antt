@@ -19,38 +19,38 @@ abbrev pub needers : StepId → History → List StepId
 needers e [] = []
 needers e (v ∷ H) = prepend_if (is_needer e H v) (step_of H v) (needers e H)
 
--- the steps that e needs, none where it doesn't stand
+-- the steps that e needs, none where it isn't there
 abbrev pub causes_of : StepId → History → List StepId
 causes_of e [] = []
 causes_of e (v ∷ H) = if is_step e H v then causes H v H else causes_of e H
 
--- e with all that need it, by their places and by their names
+-- e with all that need it, by their indexes and by their names
 pub record IsCone (e : StepId) (H : History) (c : Cone) : Type 0 where
   pub places : c.places.items ≡ reverse (removed_places e H)
   pub steps : c.steps.items ≡ reverse (removed_steps e H)
 
--- these are the places of e and of all that need it, and their names there are theirs
+-- these are the indexes of e and of all that need it, and their names there are theirs
 pub record AreAllFound (e : StepId) (entries : List Entry) (found : List ℕ) : Type 0 where
   pub places : found ≡ reverse (removed_places e (history_of entries))
   pub names : map (step_at entries) found ≡ map (λ (s : StepId). Some s) (reverse (removed_steps e (history_of entries)))
 
--- these are the places of e, which stands at this place, and of all that need it: all within the
--- entries, and none in front of e
+-- these are the indexes of e, which is at this index, and of all that need it: all within the
+-- stored steps, and none in front of e
 pub record AreAllBehind (e : StepId) (entries : List Entry) (at : ℕ) (places : List ℕ) : Type 0 where
   pub found : AreAllFound e entries places
   pub inside : All (λ p. p < length entries) places
   pub behind : All (λ p. at ≤ p) places
 
--- the events of the entries at these places
+-- the events of the stored steps at these indexes
 abbrev pub events_at : List Entry → List ℕ → History
 events_at entries [] = []
 events_at entries (p ∷ places) = map (λ (x : Entry). x.event) (option_to_list (slice_get entries p)) ++ events_at entries places
 
--- these are the keys that the events at these places give
+-- these are the keys that the events at these indexes give
 abbrev pub AreGivenAt : List Entry → List ℕ → (Key → Bool) → Type 0
 AreGivenAt entries places f = (k : Key) → f k ≡ list_any (λ u. gives (items_told entries) u k) (events_at entries places)
 
--- the events of the entries at these places, each with what stands in front of it
+-- the events of the stored steps at these indexes, each with what is before it
 abbrev pub placed_at : List Entry → List ℕ → List Placed
 placed_at entries [] = []
 placed_at entries (p ∷ places) =

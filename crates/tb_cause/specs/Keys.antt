@@ -1,5 +1,5 @@
--- The keys of events: an event needs an earlier one where it takes a key that the earlier one gives, or where it comes behind
--- that one's end by depend items.
+-- The keys of events: an event needs an earlier one where it asks for a key that the earlier one
+-- gives, or where it comes after that one's end by depend items.
 use Rattle.std.specs.Prelude.{◌≡◌, get_or, if◌then◌else◌, ℕ, ◌+◌, List, [], ◌∷◌, Bool, true, false, ◌&&◌, ◌||◌, nat_eq, Option, Some, None}
 use Rattle.std.specs.List.{list_any}
 use Rattle.indexmap.specs.IndexSet.{contains}
@@ -17,8 +17,9 @@ use Rattle.tb_model.specs.Items
 use Rattle.tb_steps.specs.Entries.{Entry}
 use Rattle.tb_cause.specs.declared.keys.Keys.{Keys}
 
--- a step or the spawn of a task, its end, the end of a child of it, the end of it or of one below it, the end of a child with an
--- item (by two numbers), a store to a cell, a store to it or a load from it, a print
+-- a step or the spawn of a task, its end, the end of a child of it, the end of it or of one below
+-- it, the end of a child with an item (by two codes), a store to a cell, a store to it or a load
+-- from it, a print
 pub data Key : Type 0 where
   Task : Name → Key
   Ended : Name → Key
@@ -44,7 +45,7 @@ action_key a (Touched c) = touches c a
 action_key a Printed = is_print a
 action_key a _ = false
 
--- three numbers for each kind: at a cell, anywhere, everywhere
+-- three codes for each kind: at a cell, anywhere, everywhere
 abbrev pub kind_number : Kind → ℕ
 kind_number In = 0
 kind_number Out = 3
@@ -52,7 +53,7 @@ kind_number Inout = 6
 kind_number Mutexinoutset = 9
 kind_number Inoutset = 12
 
--- by an item of the kind with this number, at the place
+-- by an item of the kind with this code, at the index
 abbrev pub place_key : ℕ → Place → ℕ → ℕ → Bool
 place_key m (Cell d) n c = (nat_eq m n && nat_eq d c) || (nat_eq (m + 1) n && nat_eq 0 c)
 place_key m All n c = nat_eq (m + 2) n && nat_eq 0 c
@@ -87,25 +88,26 @@ abbrev pub held_by : List Action → Option Name
 held_by (Spawn s ∷ acts) = if s.deferred then None else Some s.child
 held_by _ = None
 
--- some key passes the test that is taken behind the end of this child
+-- some key passes the test that is taken after the end of this child
 abbrev pub held_any : (Key → Bool) → Option Name → Bool
 held_any f None = false
 held_any f (Some w) = f (Ended w)
 
--- that the action takes by itself
+-- some key passes that the action asks for by itself
 abbrev pub action_any : (Key → Bool) → Action → Bool
 action_any f (Load r c x) = f (Stored c)
 action_any f (Store c x) = f (Touched c)
 action_any f (Print x) = f Printed
 action_any f _ = false
 
--- that the action of t takes as a wait for all children, or for a group
+-- some key passes that the action of t asks for as a wait for all children, or for a group
 abbrev pub wait_any : (Key → Bool) → History → Name → Action → Bool
 wait_any f H t (Wait items) = Items.has_no_items items && f (Parent t)
 wait_any f H t Close = list_any (λ c. f (Within c)) (innermost (groups (own t H)))
 wait_any f H t _ = false
 
--- a start comes behind and not together with what it depends on and what it is apart from; a `taskwait` only behind the former
+-- a start comes after and not together with what it depends on and what excludes it; a `taskwait`
+-- only after the former
 abbrev pub comes_behind : Bool → Kind → Kind → Bool
 comes_behind starts new old = Items.is_before (Items.relation new old) || (starts && Items.is_apart (Items.relation new old))
 
@@ -120,21 +122,21 @@ place_any f p All m = f (Item p (m + 1) 0) || f (Item p (m + 2) 0)
 abbrev pub kind_any : (Key → Bool) → Name → Bool → AnItem → Kind → Bool
 kind_any f p starts i old = comes_behind starts i.kind old && place_any f p i.place (kind_number old)
 
--- that a new item takes of those of the children of p
+-- some key passes that a new item asks for, of those of the children of p
 abbrev pub item_any : (Key → Bool) → Name → Bool → AnItem → Bool
 item_any f p starts i = list_any (kind_any f p starts i) kinds
 
--- that a start or a `taskwait` takes by its items
+-- some key passes that a start or a `taskwait` asks for by its items
 abbrev pub items_any : (Key → Bool) → (Name → List AnItem) → Name → Action → Bool
 items_any f I (n ∷ p) Start = list_any (item_any f p true) (I (n ∷ p))
 items_any f I t (Wait items) = list_any (item_any f t false) items
 items_any f I t _ = false
 
--- that v takes behind H
+-- some key passes that v asks for after H
 abbrev pub takes_any : (Key → Bool) → (Name → List AnItem) → History → Event → Bool
 takes_any f I H v = f (Task v.task) || (held_any f (held_by (own v.task H)) || (action_any f v.action || (wait_any f H v.task v.action || items_any f I v.task v.action)))
 
--- ---- kept
+-- ---- retained
 
 abbrev pub same_item_key : Name × ℕ × ℕ → Name × ℕ × ℕ → Bool
 same_item_key x y = (same_name x.0 y.0 && nat_eq x.1 y.1) && nat_eq x.2 y.2
@@ -150,7 +152,7 @@ has m (Stored c) = contains nat_eq m.stored c
 has m (Touched c) = contains nat_eq m.touched c
 has m Printed = m.printed
 
--- b says whether f tells a step of the task of the entry at this place
+-- b says whether f passes for the key of the task of the stored step at this index
 abbrev pub IsOfTask : List Entry → ℕ → (Key → Bool) → Bool → Type 0
 IsOfTask entries p f b = (e : Entry) → e ≡ get_or entries p e → b ≡ f (Task e.event.task)
 

@@ -1,4 +1,4 @@
--- The refusals by their numbers.
+-- The refusals by their codes.
 use Rattle.std.specs.Prelude.{ℕ}
 use Rattle.tb_cause.specs.declared.cause_refusal.CauseRefusal.{CauseRefusal}
 use Rattle.tb_cause.specs.declared.cause_refusal.CauseRefusal.TheVariants.{Memory, NoSuchStep}

@@ -12,8 +12,8 @@ use crate::indexed::Indexed;
 use crate::keys::Keys;
 use tb_model::{Action, TaskName};
 
-/// Whether each entry that gives a key which the step at this place takes gives one of these keys.
-/// Of a start and of a group's end it isn't said.
+/// Whether each stored step that gives a key which the step at this index asks for gives one of
+/// these keys. Of a start and of a group's end it isn't said.
 pub(crate) fn is_answered_at(keys: &Keys, indexed: &Indexed<'_>, at: usize) -> bool
     requires within { at < length indexed.now }
     ensures { (v : AnEntry) → v ≡ get_or indexed.now at v → result ≡
@@ -27,8 +27,8 @@ pub(crate) fn is_answered_at(keys: &Keys, indexed: &Indexed<'_>, at: usize) -> b
     )
 }
 
-/// Whether each entry that gives a key which the task's action takes gives one of these keys.
-/// `held` is the undeferred child at which the task stands, whose end is taken too.
+/// Whether each stored step that gives a key which the task's action asks for gives one of these
+/// keys. `held` is the undeferred child for which the task waits, whose end is taken too.
 fn is_answered(keys: &Keys, held: Option<&TaskName>, task: &TaskName, action: &Action) -> bool
     ensures { result ≡ answered (has keys.now) (option_copied held.entry)
         (record { task = task.now; action = action.now }) }
@@ -38,8 +38,8 @@ fn is_answered(keys: &Keys, held: Option<&TaskName>, task: &TaskName, action: &A
         && is_action_answered(keys, task, action)
 }
 
-/// Whether each entry that gives what is taken of the child's end gives one of these keys: the end
-/// is a step of the child. True where no child is named.
+/// Whether each stored step that gives what is taken of the child's end gives one of these keys:
+/// the end is a step of the child. True where no child is named.
 fn is_held_answered(keys: &Keys, held: Option<&TaskName>) -> bool
     ensures { result ≡ held_answered (has keys.now) (option_copied held.entry) }
 {
@@ -49,8 +49,8 @@ fn is_held_answered(keys: &Keys, held: Option<&TaskName>) -> bool
     }
 }
 
-/// Whether each entry that gives a key which the action takes by itself, or as a wait for all
-/// children, gives one of these keys. Of a start and a group's end it isn't said.
+/// Whether each stored step that gives a key which the action asks for by itself, or as a wait for
+/// all children, gives one of these keys. Of a start and a group's end it isn't said.
 fn is_action_answered(keys: &Keys, task: &TaskName, action: &Action) -> bool
     ensures { result ≡ action_answered (has keys.now) task.now action.now }
 {

@@ -44,8 +44,8 @@ pub fn needs(alloc: Global, core: &Core, step: &StepId) -> Result<Vec<StepId>, C
     }
 }
 
-/// The place of the step among these, which are the core's entries. It isn't looked for: the places
-/// of its task's steps tell it.
+/// The index of the step among these, which are the core's stored steps. It isn't looked for: the
+/// indexes of its task's steps say it.
 pub fn place_among(core: &Core, entries: &History<'_>, step: &StepId) -> Option<usize>
     requires { map departure (reverse entries.now) ≡ core.now.run.steps }
     ensures there { IsSome result ↔ IsTrue (stands step.now (history core.now.run)) }

@@ -1,9 +1,9 @@
-//! Why needs aren't told.
+//! Why needs aren't reported.
 
 ghost use Rattle.std.specs.Prelude.{◌≡◌};
 ghost use Rattle.tb_cause.specs.Refusals.{cause_number};
 
-/// Why needs aren't told.
+/// Why needs aren't reported.
 #[derive(Clone, Copy, Debug, Drop, PartialEq, Eq)]
 pub enum CauseRefusal {
     /// A growth was refused.
@@ -13,7 +13,7 @@ pub enum CauseRefusal {
 }
 
 impl CauseRefusal {
-    /// The number by which replies name the refusal.
+    /// The code by which replies name the refusal.
     pub fn number(&self) -> u8
         ensures { result ≡ cause_number self.now }
     {

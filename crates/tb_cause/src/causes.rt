@@ -1,4 +1,4 @@
-//! What a step needs, by one pass back over the entries in front of it.
+//! What a step needs, by one pass back over the stored steps in front of it.
 
 ghost use Rattle.std.specs.Prelude.{◌≡◌, ◌<◌, ◌≤◌, ◌∷◌, [], ◌++◌, ◌||◌, IfOk, IsTrue, OnOk, Some, false, true, length, reverse, take, get_or};
 ghost use Rattle.tb_model.specs.declared.step_id.StepId.{StepId};
@@ -18,7 +18,7 @@ use std::alloc::{AllocError, Global};
 use tb_core::History;
 use tb_model::StepId;
 
-/// The steps that the one at this place needs, directly or through others.
+/// The steps that the one at this index needs, directly or through others.
 pub(crate) fn causes_of(
     alloc: Global,
     entries: &History<'_>,
@@ -34,8 +34,8 @@ pub(crate) fn causes_of(
     Ok(steps)
 }
 
-/// The steps that the one at this place needs, directly or through others. `causes_of` leaves out
-/// the entries after the step, none of which it can need.
+/// The steps that the one at this index needs, directly or through others. `causes_of` leaves out
+/// the stored steps after the step, none of which it can need.
 fn causes_among(alloc: Global, entries: &History<'_>, at: usize) -> Result<Vec<StepId>, AllocError>
     requires legal { AreLegal entries.now }
     requires bound { length entries.now ≤ 1000000 }
@@ -48,7 +48,7 @@ fn causes_among(alloc: Global, entries: &History<'_>, at: usize) -> Result<Vec<S
     Ok(steps)
 }
 
-/// The places of the steps that the one at this place needs.
+/// The indexes of the steps that the one at this index needs.
 fn places_in_front(alloc: Global, entries: &History<'_>, at: usize) -> Result<Vec<u32>, AllocError>
     requires legal { AreLegal entries.now }
     requires bound { length entries.now ≤ 1000000 }
@@ -81,7 +81,7 @@ fn note_and_pass(
     pass(alloc, keys, indexed, at)
 }
 
-/// Goes back over the entries in front of the one at this place, whose keys are noted.
+/// Goes back over the stored steps in front of the one at this index, whose keys are noted.
 fn pass(
     alloc: Global,
     keys: &mut Keys,
@@ -108,8 +108,8 @@ fn pass(
     Ok(places)
 }
 
-/// Whether the entry at this place gives one of the keys; `of_task` says whether there is a key of
-/// its task.
+/// Whether the stored step at this index gives one of the keys; `of_task` says whether there is a
+/// key of its task.
 pub(crate) fn is_asked(
     keys: &Keys,
     indexed: &Indexed<'_>,
@@ -128,8 +128,8 @@ pub(crate) fn is_asked(
     Ok(found)
 }
 
-/// Notes the keys of the entry at this place, and the place behind the others; where `of_task` is
-/// set, there is a key of the entry's task.
+/// Notes the keys of the stored step at this index, and the index after the others; where `of_task`
+/// is set, there is a key of the stored step's task.
 pub(crate) fn enter(
     keys: &mut Keys,
     places: &mut Vec<u32>,
@@ -148,7 +148,8 @@ pub(crate) fn enter(
     Ok(())
 }
 
-/// Notes the keys of the entry at this place; where `of_task` is set, there is a key of its task.
+/// Notes the keys of the stored step at this index; where `of_task` is set, there is a key of its
+/// task.
 pub(crate) fn note_at(
     keys: &mut Keys,
     indexed: &Indexed<'_>,

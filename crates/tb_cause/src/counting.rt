@@ -1,4 +1,4 @@
-//! How many steps each task has taken, along the entries.
+//! How many steps each task has executed, along the stored steps.
 
 ghost use Rattle.std.specs.Prelude.{◌≡◌, ◌<◌, ◌+◌, IfOk, IsTrue, OnOk, Some, slice_get, if◌then◌else◌};
 ghost use Rattle.std.specs.Map.{keys_of};
@@ -10,8 +10,9 @@ use indexmap::IndexMap;
 use std::alloc::AllocError;
 use tb_model::TaskName;
 
-/// Counts one step more of the task, and tells how many that are. The place `near` is tried before
-/// the name's hash is taken, and becomes the task's: mostly a task takes several steps in a row.
+/// Counts one step more of the task, and returns how many that are. The index `near` is tried
+/// before the name's hash is taken, and becomes the task's: mostly a task executes several steps in
+/// a row.
 #[inline(always)]
 pub(crate) fn count_step(
     counts: &mut IndexMap<TaskName, u32>,
@@ -32,7 +33,7 @@ pub(crate) fn count_step(
 }
 
 /// Counts one step more of a task whose count isn't at `near`, and returns how many that are. The
-/// next place is tried first, which is the right one where tasks take their steps in turn.
+/// next index is tried first, which is the right one where tasks execute their steps in turn.
 // out of line: most steps don't pay for its stack frame
 #[inline(never)]
 fn count_behind(
@@ -55,7 +56,7 @@ fn count_behind(
     count_by_hash(counts, task)
 }
 
-/// Whether the task's count is at the place.
+/// Whether the task's count is at the index.
 #[inline(always)]
 fn stands_at(counts: &IndexMap<TaskName, u32>, at: usize, task: &TaskName) -> bool
     ensures { IsTrue result → slice_get (keys_of counts.now.entries) at ≡ Some task.now }

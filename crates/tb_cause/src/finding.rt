@@ -1,4 +1,4 @@
-//! What needs a step, by one pass over the entries behind it.
+//! What needs a step, by one pass over the stored steps after it.
 
 ghost use Rattle.std.specs.Prelude.{◌≡◌, ◌<◌, ◌≤◌, ◌+◌, ◌-◌, ◌∷◌, [], ◌++◌, ◌||◌, IfOk, IsTrue, OnOk, Some, false, true, length, map, reverse, take, get_or};
 ghost use Rattle.std.specs.List.{All};
@@ -20,7 +20,7 @@ use std::alloc::{AllocError, Global};
 use tb_core::{Core, History};
 use tb_model::StepId;
 
-/// The step at this place with all that need it.
+/// The step at this index with all that need it.
 pub fn cone_of(
     alloc: Global,
     entries: &History<'_>,
@@ -39,8 +39,8 @@ pub fn cone_of(
     Ok(Cone { places, steps })
 }
 
-/// The step at this place with all that need it, for the core's own entries: where these are few,
-/// they are named without a pass over all entries.
+/// The step at this index with all that need it, for the core's own stored steps: where these are
+/// few, they are named without a pass over all stored steps.
 pub fn cone_in(
     alloc: Global,
     core: &Core,
@@ -61,7 +61,7 @@ pub fn cone_in(
     Ok(Cone { places, steps })
 }
 
-/// The places of the step at this place and of all that need it.
+/// The indexes of the step at this index and of all that need it.
 fn places_behind(
     alloc: Global,
     entries: &History<'_>,
@@ -81,7 +81,7 @@ fn places_behind(
     places_indexed(alloc, &indexed, at, step)
 }
 
-/// The place of the newest step alone: nothing can need it, so nothing is looked up.
+/// The index of the newest step alone: nothing can need it, so nothing is looked up.
 // for the proof: `_step`, which clauses name
 fn place_alone(
     alloc: Global,
@@ -132,7 +132,7 @@ fn enter_and_pass(
     Ok(places)
 }
 
-/// Goes through the entries behind the one at this place, which is found.
+/// Goes through the stored steps after the one at this index, which is found.
 // for the proof: `_step`, which clauses name
 fn pass(
     keys: &mut Keys,
@@ -166,8 +166,8 @@ fn pass(
     Ok(())
 }
 
-/// Whether there is a key of the task of the entry at the place `next`, where it is known of the entry in front of `later`,
-/// which mostly is of the same task: then no hash is taken.
+/// Whether there is a key of the task of the stored step at the index `next`, where it is known of
+/// the stored step in front of `later`, which mostly is of the same task: then no hash is taken.
 #[inline(always)]
 fn is_of_task_on(
     keys: &Keys,
@@ -188,8 +188,8 @@ fn is_of_task_on(
     }
 }
 
-/// Whether the entry at this place takes one of the keys; `of_task` says whether there is a key of
-/// its task.
+/// Whether the stored step at this index asks for one of the keys; `of_task` says whether there is
+/// a key of its task.
 fn goes(keys: &Keys, indexed: &Indexed<'_>, later: usize, of_task: bool) -> Result<bool, AllocError>
     requires within { later < length indexed.now }
     requires of_task { IsOfTask indexed.now later (has keys.now) of_task }
@@ -205,8 +205,8 @@ fn goes(keys: &Keys, indexed: &Indexed<'_>, later: usize, of_task: bool) -> Resu
     Ok(found)
 }
 
-/// Puts the keys of the entry at this place, and the place behind the others; where `of_task` is
-/// set, there is a key of the entry's task.
+/// Puts the keys of the stored step at this index, and the index after the others; where `of_task`
+/// is set, there is a key of the stored step's task.
 fn enter(
     keys: &mut Keys,
     places: &mut Vec<u32>,

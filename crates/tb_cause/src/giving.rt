@@ -126,7 +126,7 @@ fn put_items(
     Ok(())
 }
 
-/// Puts an item at this place, of the kind with this number.
+/// Puts an item at this index, of the kind with this code.
 fn put_place(
     set: &mut IndexSet<(TaskName, u32, u32)>,
     parent: &TaskName,
@@ -146,7 +146,7 @@ fn put_place(
     }
 }
 
-/// The first of the three numbers of a kind.
+/// The first of the three codes of a kind.
 pub(crate) fn number_of(kind: Kind) -> u32
     ensures number { result ≡ kind_number kind }
     ensures bound { result ≤ 12 }

@@ -1,4 +1,4 @@
-//! The entries of a history, with what is looked up in them.
+//! The stored steps of a history, with what is looked up in them.
 
 ghost use Rattle.std.specs.Prelude.{◌≡◌, ◌≤◌, ◌<◌, ◌+◌, ◌-◌, ◌∷◌, IfSome, IsTrue, List, length, take, get_or};
 ghost use Rattle.std.specs.Option.{option_copied};
@@ -17,7 +17,7 @@ use std::marker::Model;
 use tb_core::History;
 use tb_model::{Action, Item, TaskName};
 
-/// The entries of a legal history, with what is looked up in them by place and by name.
+/// The stored steps of a legal history, with what is looked up in them by index and by name.
 #[derive(Drop)]
 pub(crate) struct Indexed<'a> {
     entries: History<'a>,
@@ -52,14 +52,14 @@ impl<'a> Indexed<'a> {
         self.entries.is_legal();
     }
 
-    /// How many entries there are.
+    /// How many stored steps there are.
     pub fn len(&self) -> usize
         ensures { result ≡ length self.now }
     {
         self.entries.len()
     }
 
-    /// The place as answers keep it.
+    /// The index as answers store it.
     pub fn place(&self, at: usize) -> u32
         requires { at < length self.now }
         ensures { result ≡ at }
@@ -68,7 +68,7 @@ impl<'a> Indexed<'a> {
         at as u32
     }
 
-    /// The entries in front of this place.
+    /// The stored steps in front of this index.
     pub fn front(&self, at: usize) -> History<'_>
         requires { at < length self.now }
         ensures { result ≡ take at self.now }
@@ -76,7 +76,7 @@ impl<'a> Indexed<'a> {
         self.entries.front(at)
     }
 
-    /// The task of the entry at this place.
+    /// The task of the stored step at this index.
     pub fn task_at(&self, at: usize) -> &TaskName
         requires { at < length self.now }
         ensures { (e : AnEntry) → e ≡ get_or self.now at e → result.now ≡ e.event.task }
@@ -84,7 +84,7 @@ impl<'a> Indexed<'a> {
         self.entries.task(at)
     }
 
-    /// The action of the entry at this place.
+    /// The action of the stored step at this index.
     pub fn action_at(&self, at: usize) -> &Action
         requires { at < length self.now }
         ensures { (e : AnEntry) → e ≡ get_or self.now at e → result.now ≡ e.event.action }
@@ -92,7 +92,7 @@ impl<'a> Indexed<'a> {
         self.entries.action(at)
     }
 
-    /// Whether one task took the steps at this place and at the one in front of it.
+    /// Whether one task executed the steps at this index and at the one in front of it.
     #[inline(always)]
     pub fn follows_its_own(&self, at: usize) -> bool
         requires within { at < length self.now }
@@ -103,7 +103,7 @@ impl<'a> Indexed<'a> {
         self.entries.are_of_one(at, at - 1)
     }
 
-    /// Whether there is a key of the task of the entry at this place.
+    /// Whether there is a key of the task of the stored step at this index.
     pub fn is_of_task(&self, keys: &Keys, at: usize) -> bool
         requires { at < length self.now }
         ensures { IsOfTask self.now at (has keys.now) result }
@@ -111,8 +111,8 @@ impl<'a> Indexed<'a> {
         has_task(&keys.tasks, self.task_at(at))
     }
 
-    /// Whether there is a key of the task of the entry at this place. `of_last` says it of the
-    /// entry in front, which mostly is of the same task: then no hash is taken.
+    /// Whether there is a key of the task of the stored step at this index. `of_last` says it of
+    /// the stored step in front, which mostly is of the same task: then no hash is taken.
     #[inline(always)]
     pub fn is_of_next(&self, keys: &Keys, at: usize, of_last: bool) -> bool
         requires within { at < length self.now }
@@ -126,8 +126,8 @@ impl<'a> Indexed<'a> {
         self.is_of_task(keys, at)
     }
 
-    /// Whether there is a key of the task of the entry at this place. `of_last` says it of the
-    /// entry after it, which mostly is of the same task: then no hash is taken.
+    /// Whether there is a key of the task of the stored step at this index. `of_last` says it of
+    /// the stored step after it, which mostly is of the same task: then no hash is taken.
     #[inline(always)]
     pub fn is_of_earlier(&self, keys: &Keys, at: usize, of_last: bool) -> bool
         requires within { at + 1 < length self.now }
@@ -141,7 +141,8 @@ impl<'a> Indexed<'a> {
         self.is_of_task(keys, at)
     }
 
-    /// The first place from this one on at which the task stepped, else how many entries there are.
+    /// The first index from this one on at which the task stepped, else how many stored steps there
+    /// are.
     pub fn next_of(&self, task: &TaskName, from: usize) -> usize
         requires { from ≤ length self.now }
         ensures from { from ≤ result }
@@ -150,7 +151,8 @@ impl<'a> Indexed<'a> {
         self.entries.next_of(task, from)
     }
 
-    /// The first place from this one on at which the cell was loaded from or stored to, else how many entries there are.
+    /// The first index from this one on at which the cell was loaded from or stored to, else how
+    /// many stored steps there are.
     pub fn next_touch(&self, cell: u32, from: usize) -> usize
         requires { from ≤ length self.now }
         ensures from { from ≤ result }
@@ -159,7 +161,8 @@ impl<'a> Indexed<'a> {
         self.entries.next_touch(cell, from)
     }
 
-    /// The first place from this one on at which a step printed, else how many entries there are.
+    /// The first index from this one on at which a step printed, else how many stored steps there
+    /// are.
     pub fn next_print(&self, from: usize) -> usize
         requires { from ≤ length self.now }
         ensures from { from ≤ result }
@@ -180,7 +183,7 @@ impl<'a> Indexed<'a> {
         }
     }
 
-    /// The place of the task's spawn, looked for from the newest entry on.
+    /// The index of the task's spawn, looked for from the newest stored step on.
     pub fn spawn_of(&self, task: &TaskName) -> Option<usize>
         ensures spawn { spawn_of task.now (history_of self.now) ≡ placed_action self.now result }
         ensures within { IfSome result (λ at. at < length self.now) }
@@ -222,9 +225,9 @@ fn undeferred(action: &Action) -> Option<&TaskName>
     }
 }
 
-/// The patterns name every field: what is found and what is looked up holds no program, and no copy of
-/// a state; the entries are lent. They are compiled with the crate, so that a further field is refused
-/// until it stands here.
+/// The patterns name every field: what is found and what is looked up holds no program, and no copy
+/// of a state; the stored steps are lent. They are compiled with the crate, so that a further field
+/// is refused until it is named here.
 fn name_every_field(indexed: &Indexed<'_>, keys: &Keys, cone: &Cone) {
     let Indexed { entries: _ } = indexed;
     let Keys {

@@ -1,4 +1,4 @@
-//! What the steps that are found have in common with those that are looked for, kept as keys.
+//! What the steps that are found have in common with those that are looked for, stored as keys.
 
 ghost use Rattle.std.specs.Prelude.{◌≡◌, ◌&&◌, ◌||◌, ℕ, false, nat_eq, OnOk, IfOk};
 ghost use Rattle.indexmap.specs.IndexSet.{contains};
@@ -9,8 +9,8 @@ use indexmap::IndexSet;
 use std::alloc::{AllocError, Global};
 use tb_model::TaskName;
 
-/// Keys of steps: a step needs an earlier one where it takes a key that the earlier one gives. These
-/// are the keys that some found step gives, or those that some found step takes.
+/// Keys of steps: a step needs an earlier one where it asks for a key that the earlier one gives.
+/// These are the keys that some found step gives, or those that some found step asks for.
 #[derive(Drop)]
 pub(crate) struct Keys {
     /// A step of the task, or its spawn.
@@ -21,7 +21,7 @@ pub(crate) struct Keys {
     pub parents: IndexSet<TaskName>,
     /// The end of the task or of one below it.
     pub within: IndexSet<TaskName>,
-    /// The end of a child of the task with an item: its kind and where it is, by number, and its
+    /// The end of a child of the task with an item: its kind and where it is, by code, and its
     /// cell.
     pub items: IndexSet<(TaskName, u32, u32)>,
     /// A store to the cell.

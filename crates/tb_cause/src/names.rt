@@ -1,4 +1,4 @@
-//! The names of steps, by their places.
+//! The names of steps, by their indexes.
 
 ghost use Rattle.std.specs.Prelude.{◌≡◌, ◌<◌, ◌≤◌, ◌-◌, IfOk, IsTrue, Some, length, map, reverse, slice_get};
 ghost use Rattle.std.specs.List.{All};
@@ -16,7 +16,8 @@ use std::alloc::{AllocError, Global};
 use tb_core::{Core, History, step_among, step_at};
 use tb_model::StepId;
 
-/// The names of the steps at these places. Where they are few, the number of each is found among its task's places.
+/// The names of the steps at these indexes. Where they are few, the ordinal of each is found among
+/// its task's indexes.
 pub(crate) fn names_at(
     alloc: Global,
     entries: &History<'_>,
@@ -33,8 +34,8 @@ pub(crate) fn names_at(
     names_by(alloc, entries, places, &numbers)
 }
 
-/// The names of the steps at these places of the core's entries. Where they are few, the number of
-/// each step is found among the core's places of its task's steps.
+/// The names of the steps at these indexes of the core's stored steps. Where they are few, the
+/// ordinal of each step is found among the core's indexes of its task's steps.
 pub(crate) fn names_in(
     alloc: Global,
     core: &Core,
@@ -71,8 +72,9 @@ fn names_found(
     Ok(steps)
 }
 
-/// The name of the step at this place of the core's entries. The number `near` is that of the step
-/// that was found last: mostly this one is the next of its task, and then it isn't searched for.
+/// The name of the step at this index of the core's stored steps. The ordinal `near` is that of the
+/// step that was found last: mostly this one is the next of its task, and then it isn't searched
+/// for.
 fn name_found(
     core: &Core,
     entries: &History<'_>,
@@ -94,7 +96,7 @@ fn name_found(
     Ok(id)
 }
 
-/// Whether the place stands behind so many of these.
+/// Whether the index is after so many of these.
 fn stands_next(own: &[u32], at: usize, near: usize) -> bool
     ensures { IsTrue result → slice_get own.now near ≡ Some at }
 {
@@ -104,7 +106,7 @@ fn stands_next(own: &[u32], at: usize, near: usize) -> bool
     }
 }
 
-/// The name of the step at this place, which is the kth of those of its task.
+/// The name of the step at this index, which is the kth of those of its task.
 // for the proof: `_own`, which clauses name
 fn name_numbered(
     _own: &[u32],
@@ -140,8 +142,8 @@ fn few_names(
     Ok(steps)
 }
 
-/// The names of the steps at these places, where `numbers` has the number of every step by its
-/// place.
+/// The names of the steps at these indexes, where `numbers` has the ordinal of every step by its
+/// index.
 fn names_by(
     alloc: Global,
     entries: &History<'_>,
@@ -159,7 +161,7 @@ fn names_by(
     Ok(steps)
 }
 
-/// The name of the step at this place, which is its task's kth.
+/// The name of the step at this index, which is its task's kth.
 fn named(entries: &History<'_>, at: usize, k: u32) -> Result<StepId, AllocError>
     requires within { at < length entries.now }
     requires number { (id : StepId) → step_at entries.now at ≡ Some id → k ≡ id.k }
@@ -169,7 +171,7 @@ fn named(entries: &History<'_>, at: usize, k: u32) -> Result<StepId, AllocError>
     Ok(StepId { task, k })
 }
 
-/// The number of each step among the steps of its task, from 1.
+/// The ordinal of each step among the steps of its task, from 1.
 fn numbers_of(alloc: Global, entries: &History<'_>) -> Result<Vec<u32>, AllocError>
     requires bound { length entries.now ≤ 1000000 }
     ensures { IfOk result (λ numbers. AreNumbers entries.now (length entries.now) numbers.items) }

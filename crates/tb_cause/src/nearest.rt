@@ -1,5 +1,5 @@
-//! The steps that a step needs immediately, by one pass back over the entries in front of it. The
-//! pass ends where all that is left is needed by way of what was found.
+//! The steps that a step needs immediately, by one pass back over the stored steps in front of it.
+//! The pass ends where all that is left is needed by way of what was found.
 
 ghost use Rattle.std.specs.Prelude.{◌≡◌, ◌<◌, ◌≤◌, ◌+◌, ◌∷◌, [], ◌++◌, ◌&&◌, ◌||◌, not, IfOk, OnOk, IfSome, Some, false, length, reverse, get_or, if◌then◌else◌};
 ghost use Rattle.tb_steps.specs.Entries.{Entry as AnEntry};
@@ -17,7 +17,7 @@ use std::alloc::{AllocError, Global};
 use tb_core::History;
 use tb_model::Action;
 
-/// The places of the steps that the one at this place needs immediately.
+/// The indexes of the steps that the one at this index needs immediately.
 pub fn nearest_places(
     alloc: Global,
     entries: &History<'_>,
@@ -32,8 +32,8 @@ pub fn nearest_places(
     Ok(places)
 }
 
-/// The places of the steps that the one at this place needs immediately. `nearest_places` leaves
-/// out the entries after the step, none of which it can need.
+/// The indexes of the steps that the one at this index needs immediately. `nearest_places` leaves
+/// out the stored steps after the step, none of which it can need.
 fn nearest_among(alloc: Global, entries: &History<'_>, at: usize) -> Result<Vec<u32>, AllocError>
     requires legal { AreLegal entries.now }
     requires bound { length entries.now ≤ 1000000 }
@@ -67,8 +67,8 @@ fn note_and_pass(
     pass(alloc, own, &mut keys, indexed, at)
 }
 
-/// Goes back over the entries that may be needed. The step's own keys are noted apart from those of
-/// the steps that are found: an entry that gives one of the latter is needed by way.
+/// Goes back over the stored steps that may be needed. The step's own keys are noted apart from
+/// those of the steps that are found: a stored step that gives one of the latter is needed by way.
 fn pass(
     alloc: Global,
     own: &Keys,
@@ -98,7 +98,7 @@ fn pass(
     Ok(turned(places))
 }
 
-/// The bounds of the places at which a step can be needed directly: from the first on, in front of
+/// The bounds of the indexes at which a step can be needed directly: from the first on, in front of
 /// the second.
 fn reach_of(indexed: &Indexed<'_>, at: usize) -> (usize, usize)
     requires within { at < length indexed.now }
@@ -111,7 +111,7 @@ fn reach_of(indexed: &Indexed<'_>, at: usize) -> (usize, usize)
     }
 }
 
-/// The place of the step that generates the task, where the one at this place is its start and its
+/// The index of the step that generates the task, where the one at this index is its start and its
 /// task has no depend items: then that one alone is needed directly.
 fn lone_spawn(indexed: &Indexed<'_>, at: usize) -> Option<usize>
     requires within { at < length indexed.now }
@@ -124,7 +124,7 @@ fn lone_spawn(indexed: &Indexed<'_>, at: usize) -> Option<usize>
             if !indexed.items_of(task).is_empty() {
                 return None;
             }
-            // the spawn is looked for from the newest entry on, so the items are asked first
+            // the spawn is looked for from the newest stored step on, so the items are asked first
             let spawn = indexed.spawn_of(task)?;
             if spawn < at { Some(spawn) } else { None }
         }
@@ -132,7 +132,7 @@ fn lone_spawn(indexed: &Indexed<'_>, at: usize) -> Option<usize>
     }
 }
 
-/// The places in the opposite order.
+/// The indexes in the opposite order.
 fn turned(places: Vec<u32>) -> Vec<u32>
     ensures { result.items ≡ reverse places.items }
 {
@@ -141,8 +141,8 @@ fn turned(places: Vec<u32>) -> Vec<u32>
     places
 }
 
-/// Whether the entry at this place gives one of the keys or of the step's own; its place is noted
-/// where it gives one of the latter alone.
+/// Whether the stored step at this index gives one of the keys or of the step's own; its index is
+/// noted where it gives one of the latter alone.
 fn meet(
     own: &Keys,
     keys: &Keys,

@@ -1,4 +1,4 @@
-//! The keys that a step takes, noted for the look at what stands in front of it.
+//! The keys that a step asks for, noted for the look at what is before it.
 
 ghost use Rattle.std.specs.Prelude.{true, IsTrue, ◌≡◌, ◌≢◌, ◌≤◌, ◌&&◌, ◌||◌, ℕ, [], List, OnOk};
 ghost use Rattle.std.specs.List.{list_any};
@@ -22,8 +22,8 @@ use std::alloc::AllocError;
 use tb_core::History;
 use tb_model::{Action, Item, Kind, Place, TaskName};
 
-/// Puts the keys that the task's action takes. It stands behind these entries, and at an undeferred
-/// child if one is named; where `of_task` is set, there is a key of the task.
+/// Puts the keys that the task's action asks for. It is after these stored steps, and at an
+/// undeferred child if one is named; where `of_task` is set, there is a key of the task.
 pub(crate) fn note(
     keys: &mut Keys,
     indexed: &Indexed<'_>,

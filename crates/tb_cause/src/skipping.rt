@@ -1,4 +1,5 @@
-//! Where a pass goes on: the entries that no key can be of are left out, where the keys are few.
+//! Where a pass goes on: the stored steps that no key can be of are left out, where the keys are
+//! few.
 
 ghost use Rattle.std.specs.Prelude.{◌≡◌, ◌≤◌, nat_eq, true, IfOk, IsTrue, length};
 ghost use Rattle.indexmap.specs.IndexSet.{contains};
@@ -13,9 +14,10 @@ use indexmap::IndexSet;
 use std::alloc::AllocError;
 use tb_model::TaskName;
 
-/// A place from `from` on in front of which no entry takes one of the keys, which are those of the entries at these
-/// places. Where the keys are few, it is that of the next step of a task, or the next touch of a cell, of which there is one;
-/// where the entry at `from` is known to take one, it isn't looked for.
+/// An index from `from` on in front of which no stored step asks for one of the keys, which are
+/// those of the stored steps at these indexes. Where the keys are few, it is that of the next step
+/// of a task, or the next touch of a cell, of which there is one; where the stored step at `from`
+/// is known to take one, it isn't looked for.
 pub(crate) fn next_taker(
     keys: &Keys,
     indexed: &Indexed<'_>,

@@ -1,4 +1,4 @@
-//! The keys that a step takes.
+//! The keys that a step asks for.
 
 ghost use Rattle.std.specs.Prelude.{◌≡◌, ◌≤◌, ◌&&◌, ◌||◌, ℕ, Bool, List, IfOk, IsTrue};
 ghost use Rattle.std.specs.List.{list_any};
@@ -20,7 +20,7 @@ use std::alloc::AllocError;
 use tb_core::History;
 use tb_model::{Action, Item, Kind, Place, TaskName};
 
-/// Whether the task's action takes one of the keys. It stands behind these entries, and at an
+/// Whether the task's action asks for one of the keys. It is after these stored steps, and at an
 /// undeferred child if one is named; `of_task` says whether there is a key of the task.
 pub(crate) fn takes_some(
     keys: &Keys,
@@ -134,7 +134,7 @@ fn takes_by_items(
     }
 }
 
-/// Whether the start of the task, which has these items, takes one of the keys through them: the
+/// Whether the start of the task, which has these items, asks for one of the keys through them: the
 /// ends of siblings that they meet. The root's start takes none.
 fn takes_at_start(keys: &Keys, task: &TaskName, items: &[Item]) -> Result<bool, AllocError>
     ensures { IfOk result (λ b. (I : Name → List AnItem) → I task.now ≡ items.now →
@@ -149,7 +149,7 @@ fn takes_at_start(keys: &Keys, task: &TaskName, items: &[Item]) -> Result<bool, 
     }
 }
 
-/// Whether one of these items of a start or of a `taskwait` takes one of the keys.
+/// Whether one of these items of a start or of a `taskwait` asks for one of the keys.
 fn takes_some_item(
     keys: &Keys,
     parent: &TaskName,
@@ -212,7 +212,7 @@ fn takes_place(
     has_item(&keys.items, parent, number + 2, 0)
 }
 
-/// Whether a new item of this kind comes behind an earlier one of that kind; that of a start also
+/// Whether a new item of this kind comes after an earlier one of that kind; that of a start also
 /// where the two exclude each other.
 pub(crate) fn comes_behind(starts: bool, new: Kind, old: Kind) -> bool
     ensures { result ≡ comes_behind starts new old }

@@ -1,4 +1,4 @@
-//! What is kept of each cell that has room, where every other cell has one value by default.
+//! What is stored of each cell that has capacity, where every other cell has one value by default.
 #![tactic(auto)]
 
 ghost use Rattle.std.specs.Prelude.{◌≡◌, ℕ, true, OnOk, IsOk, is_some, nat_eq, unwrap_or, option_map, if◌then◌else◌};
@@ -7,7 +7,7 @@ ghost use Rattle.std.specs.Map.{lookup};
 use indexmap::IndexMap;
 use std::alloc::AllocError;
 
-/// Makes room for the cell, whose value is the absent one until it is set.
+/// Reserves capacity for the cell, whose value is the absent one until it is set.
 pub fn reserve_cell<V: Copy + Drop>(
     cells: &mut IndexMap<u32, V>,
     cell: u32,
@@ -28,7 +28,7 @@ pub fn reserve_cell<V: Copy + Drop>(
     Ok(())
 }
 
-/// Sets the cell's value, where the cell has room.
+/// Sets the cell's value, where the cell has capacity.
 pub fn set_cell<V: Copy + Drop>(cells: &mut IndexMap<u32, V>, cell: u32, to: V)
     ensures { (c : ℕ) → lookup (nat_eq c) cells.new.entries
         ≡ (if nat_eq cell c then option_map (λ _. to) (lookup (nat_eq c) cells.old.entries) else lookup (nat_eq c) cells.old.entries) }

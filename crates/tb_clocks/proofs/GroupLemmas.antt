@@ -28,16 +28,16 @@ closed gs less (Some g) e none = sym (ap (drop 1) (opened less gs g e))
 closed [] less None e none = ap reverse (sym (append-nil less) ∙ sym e)
 closed (g ∷ gs) less None e none = absurd (let n = none refl in omega (arith, n))
 
--- ---- each by the number of the step that opened it
+-- ---- each by the ordinal of the step that opened it
 
--- the groups are those of these steps, and each has the number of children at its step
+-- the groups are those of these steps, and each has the count of children at its step
 abbrev Matched : List ℕ → List Group → List Action → Type 0
 Matched [] [] acts = Unit {0}
 Matched [] (g ∷ gs) acts = ⊥
 Matched (k ∷ ks) [] acts = ⊥
 Matched (k ∷ ks) (g ∷ gs) acts = (k ≤ length acts) × (g.children ≡ children_at k acts) × Matched ks gs acts
 
--- so they are after one action more
+-- the groups match after one action more too
 on_by : (k n m : ℕ) → k ≤ n → nat_le k n ≡ true
 on_by k n m h = grind (arith, nat_tests)
 

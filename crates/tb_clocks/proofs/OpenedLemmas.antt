@@ -42,7 +42,7 @@ legal_since cells zero H l = l
 legal_since cells (suc n) [] l = l
 legal_since cells (suc n) (v ∷ H) l = legal_since cells n H l.0
 
--- ---- each group with the number of children at its step
+-- ---- each group with the count of children at its step
 
 abbrev AreAt : Name → History → List Group → Type 0
 AreAt t H [] = Unit {0}

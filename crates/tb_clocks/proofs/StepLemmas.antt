@@ -159,7 +159,7 @@ as_many task Fault (Some x) c = absurd c
 
 module _ (cells : Cells) (H : History) (v : Event) (l : Legal cells (v ∷ H)) (old : Tasks) (a : AreTasks cells H old) (task : ℕ) (id : HasId H task v.task) where
   module _ (row changed : Row) (was : slice_get old.rows.items task ≡ Some row) (parent : changed.parent ≡ row.parent) (number : changed.ordinal ≡ row.ordinal) (steps : known changed ≡ advanced (length H) v.action (known row)) where
-    -- the task that took the step, or another
+    -- the task that executed the step, or another
     still : (i : ℕ) (t : Name) (r : Row) (b : Bool) → nat_eq task i ≡ b → HasId H i t → slice_get (slice_set old.rows.items task changed) i ≡ Some r → IsRow (v ∷ H) t r
     still i t r true e h g =
         let here : task ≡ i = grind (arith, nat_tests) in

@@ -155,7 +155,7 @@ one_step : (n : ℕ) → suc n ≡ n + 1
 one_step n = omega arith
 
 module _ (cells : Cells) (H : History) (v : Event) (l : Legal cells (v ∷ H)) where
-  -- of the task that took the step
+  -- of the task that executed the step
   pub known_own : (t : Name) → IsSpawned H t → is_of t v ≡ true → known_of (v ∷ H) t ≡ advanced (length H) v.action (known_of H t)
   known_own t s e =
       let mine = own_mine t v H e in

@@ -37,7 +37,7 @@ pub record Known : Type 0 where
 abbrev pub known : Row → Known
 known r = record { steps = r.steps; children = r.children; held = r.held; items = r.items; groups = reverse r.groups.items }
 
--- of a task that took no step
+-- of a task that executed no step
 abbrev pub child_known : List Item → Known
 child_known items = record { steps = 0; children = 0; held = false; items = items; groups = [] }
 

@@ -12,11 +12,11 @@ pub record Sets (task : ℕ) (old new : List Row) (row changed : Row) : Type 0 w
   pub parent : changed.parent ≡ row.parent
   pub ordinal : changed.ordinal ≡ row.ordinal
 
--- its task took the step
+-- the task of the row executed the step
 abbrev pub Advances : ℕ → ℕ → Action → List Row → List Row → Type 0
 Advances task at a old new = (row : Row) × (changed : Row) × Sets task old new row changed × (known changed ≡ advanced at a (known row))
 
--- it says what it said
+-- the row says what it said
 abbrev pub Stays : ℕ → List Row → List Row → Type 0
 Stays task old new = (new ≡ old) ⊎ ((row : Row) × (changed : Row) × Sets task old new row changed × (known changed ≡ known row))
 

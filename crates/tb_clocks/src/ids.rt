@@ -29,7 +29,7 @@ impl Ids {
         Ok(Ids { names })
     }
 
-    /// Takes the action of the next event: a child that it generates gets the next id. Where memory
+    /// Adds the action of the next event: a child that it generates gets the next id. Where memory
     /// is wanted, nothing changes.
     pub fn push(&mut self, action: &Action) -> Result<(), AllocError>
         ensures ok { OnOk result ((cells : Cells) (H : History) (v : AnEvent) → AreIds cells H self.old

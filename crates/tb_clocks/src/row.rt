@@ -35,7 +35,7 @@ fn is_undeferred(action: &Action) -> bool
     }
 }
 
-/// So many children, with the one that the action generates.
+/// A count of children, with the one that the action generates.
 fn children_with(action: &Action, children: u32) -> u32
     requires { children < 2 ^ 32 - 1 }
     ensures { result ≡ children_with action.now children }
@@ -70,7 +70,7 @@ fn change_groups(
 }
 
 impl Row {
-    /// A task that took no step.
+    /// A task that executed no step.
     pub fn new(alloc: Global, parent: usize, ordinal: u32, items: Items) -> Row
         ensures known { known result ≡ child_known items }
         ensures parent { result.parent ≡ parent }
@@ -87,7 +87,7 @@ impl Row {
         }
     }
 
-    /// The task takes this step, which has this index in the history.
+    /// The task executes this step, which has this index in the history.
     pub fn advance(&mut self, at: usize, action: &Action) -> Result<(), AllocError>
         requires steps { self.old.steps < 2 ^ 32 - 1 }
         requires children { self.old.children < 2 ^ 32 - 1 }

@@ -7,8 +7,8 @@ use crate::row::Row;
 use std::alloc::AllocError;
 use tb_model::Action;
 
-/// The task with this id takes this step, which has this index in the history. A task of which so
-/// many steps or children were counted as there are numbers wants memory.
+/// The task with this id executes this step, which has this index in the history. A task of which
+/// so many steps or children were counted as there are numbers wants memory.
 pub fn advance(
     rows: &mut Vec<Row>,
     task: usize,
@@ -28,7 +28,7 @@ pub fn advance(
     row.advance(at, action)
 }
 
-/// Adds a row, if there is one, in the room that there is.
+/// Adds a row, if there is one, in the capacity that there is.
 pub fn add(rows: &mut Vec<Row>, row: Option<Row>)
     requires { vec_len rows.old < vec_capacity rows.old }
     ensures { rows.new.items ≡ rows.old.items ++ rows_of row }

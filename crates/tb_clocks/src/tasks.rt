@@ -53,7 +53,7 @@ impl Tasks {
         Ok(Tasks { rows, count: 0 })
     }
 
-    /// Takes the action of the next event, which is of the task with this id. Where memory is
+    /// Adds the action of the next event, which is of the task with this id. Where memory is
     /// wanted, nothing changes.
     pub fn push(&mut self, alloc: Global, task: usize, action: &Action) -> Result<(), AllocError>
         ensures ok { OnOk result ((cells : Cells) (H : History) (v : AnEvent) → AreTasks cells H self.old

@@ -29,8 +29,8 @@ pub fn spawn(alloc: Global, child: TaskName, deferred: bool) -> Option<Action> {
     }
 }
 
-/// The task with this id takes the step; whether there was memory for it. What it needs isn't given
-/// back, so that no test is proved for each way to do that.
+/// The task with this id executes the step; whether there was memory for it. What it needs isn't
+/// given back, so that no test is proved for each way to do that.
 fn takes(alloc: Global, tasks: &mut Tasks, id: usize, task: TaskName, action: Action) -> bool {
     let event = Event { task, action };
     let taken = tasks.push(alloc, id, &event.action).is_ok();

@@ -1,4 +1,4 @@
--- No command but `break` and `go` has two words behind it.
+-- No command but `break` and `go` has two words after it.
 use Rattle.std.proofs.Common.{◌≡◌, ℕ, List, ◌∷◌, refl}
 use Rattle.tb_commands.specs.Commands.{asked_of, Words}
 use Rattle.tb_commands.specs.declared.command.Verb.{Verb}

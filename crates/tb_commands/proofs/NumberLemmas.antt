@@ -1,4 +1,4 @@
--- What `parse` gives of digits is the number that they spell.
+-- What `parse` gives of digits is the value that they spell.
 use Rattle.std.proofs.Common.{◌≡◌, ◌≢◌, ℕ, ◌<◌, ◌≤◌, ◌^◌, List, [], ◌∷◌, Bool, true, false, cond, length, get_or, Some, None, Result, Ok, Err, arith, refl, ap, ◌∙◌, nat_le, nat_lt}
 use Rattle.std.proofs.lemmas.Bool.{and_parts, and_from}
 use Rattle.std.proofs.lemmas.Bool.Decides.{nat_tests}

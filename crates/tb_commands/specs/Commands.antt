@@ -22,7 +22,7 @@ use Rattle.tb_commands.specs.declared.asked.Asked.TheVariants.{Nothing, Command 
 abbrev pub Words : Type 0
 Words = List (List ℕ)
 
--- ---- the words behind the first
+-- ---- the words after the first
 
 -- no word
 abbrev pub with_none : Words → Command → Asked
@@ -64,7 +64,8 @@ numbered None command = Fault BadNumber
 
 -- ---- `break` and `go`
 
--- the second word says which steps are waited for, and comes before the number of words; a body is any word
+-- the second word says which steps are waited for, and comes before the count of words; a body is
+-- any word
 abbrev pub break_of : Words → Asked
 break_of [] = Fault Count
 break_of (kind ∷ words) =
@@ -84,7 +85,7 @@ abbrev pub go_with : Option ℕ → Option ℕ → Asked
 go_with (Some workers) (Some most) = Go workers most
 go_with _ _ = Fault BadNumber
 
--- a number of workers up to the limit, and the most steps
+-- a count of workers up to the limit, and the most steps
 abbrev pub go_of : ℕ → Words → Asked
 go_of limit (workers ∷ most ∷ []) = go_with (positive (number_within limit workers)) (number_within 1000000 most)
 go_of limit _ = Fault Count

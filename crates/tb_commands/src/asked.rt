@@ -10,7 +10,7 @@ pub enum CommandFault {
     Line,
     /// There is no such command.
     Word,
-    /// The command has another number of words.
+    /// The command has another count of words.
     Count,
     /// A word names no task or no step.
     Name,

@@ -150,7 +150,7 @@ fn asked_deps(alloc: Global, word: &[u8]) -> Result<Asked, AllocError>
     }
 }
 
-/// What a command with no word behind it asks for.
+/// What a command with no word after it asks for.
 fn asked_alone(verb: Verb) -> Asked
     ensures { result ≡ asked_of verb [] }
 {
@@ -171,7 +171,7 @@ fn asked_alone(verb: Verb) -> Asked
     }
 }
 
-/// What a command with this word behind it asks for.
+/// What a command with this word after it asks for.
 fn asked_with(alloc: Global, verb: Verb, word: &[u8]) -> Result<Asked, AllocError>
     ensures { IfOk result (λ a. a ≡ asked_of verb (word.now ∷ [])) }
 {
@@ -192,7 +192,7 @@ fn asked_with(alloc: Global, verb: Verb, word: &[u8]) -> Result<Asked, AllocErro
     }
 }
 
-/// What a command with these words behind it asks for.
+/// What a command with these words after it asks for.
 #[tactic(auto, using(crate::proofs::CommandLemmas::too_many))]
 fn asked_of(alloc: Global, verb: Verb, words: &[&[u8]]) -> Result<Asked, AllocError>
     ensures { IfOk result (λ a. a ≡ asked_of verb (map (λ word. word.now) words.now)) }
@@ -204,7 +204,7 @@ fn asked_of(alloc: Global, verb: Verb, words: &[&[u8]]) -> Result<Asked, AllocEr
     }
 }
 
-/// What a line of this word and others behind it asks for.
+/// What a line of this word and others after it asks for.
 fn asked_words(
     alloc: Global,
     limit: Workers,

@@ -74,7 +74,7 @@ fn break_alone(at: Break, words: &[&[u8]]) -> Asked
     }
 }
 
-/// What `break` with this word and others behind it asks for.
+/// What `break` with this word and others after it asks for.
 fn break_at(alloc: Global, kind: &[u8], words: &[&[u8]]) -> Result<Asked, AllocError>
     ensures { IfOk result (λ a. a ≡ break_of (kind.now ∷ map (λ word. word.now) words.now)) }
 {
@@ -93,7 +93,7 @@ fn break_at(alloc: Global, kind: &[u8], words: &[&[u8]]) -> Result<Asked, AllocE
     }
 }
 
-/// What `break` with these words behind it asks for.
+/// What `break` with these words after it asks for.
 pub fn asked_break(alloc: Global, words: &[&[u8]]) -> Result<Asked, AllocError>
     ensures { IfOk result (λ a. a ≡ break_of (map (λ word. word.now) words.now)) }
 {
@@ -114,7 +114,7 @@ fn read_workers(limit: Workers, word: &[u8]) -> Option<Workers>
     }
 }
 
-/// What `go` with these words behind it asks for, where it may name so many workers.
+/// What `go` with these words after it asks for, where it may name so many workers.
 pub fn asked_go(limit: Workers, words: &[&[u8]]) -> Asked
     ensures { result ≡ go_of limit (map (λ word. word.now) words.now) }
 {

@@ -5,7 +5,7 @@ ghost use Rattle.std.specs.Prelude.{◌≡◌, IfOk};
 use std::alloc::{AllocError, Global};
 use std::marker::Model;
 
-/// A word of a command, kept as it is spelled. Contracts see its bytes.
+/// A word of a command, stored as it is spelled. Contracts see its bytes.
 #[derive(Debug, Drop)]
 pub struct Word {
     bytes: Vec<u8>,

@@ -1,10 +1,10 @@
-//! A number of workers.
+//! A count of workers.
 
 ghost use Rattle.std.specs.Prelude.{◌≡◌, ◌≤◌};
 
 use std::marker::Model;
 
-/// A number of workers, 1 to 64. Contracts see the number.
+/// A count of workers, 1 to 64. Contracts see the number.
 #[derive(Clone, Copy, Debug, Drop)]
 pub struct Workers {
     count: u32,

@@ -1,4 +1,4 @@
--- What stays lawful beside the journal, and which claims an undo withdraws.
+-- What stays lawful besides the journal, and which claims an undo withdraws.
 use Rattle.std.proofs.Common.{◌≡◌, ℕ, zero, suc, List, [], ◌∷◌, ◌++◌, Bool, true, false, ◌||◌, not, cond, replicate, reverse, refl, sym, ap, ap₂, ◌∙◌, subst, Option, Some, None, ◌⊎◌, ⊎_elim, inl, inr}
 use Rattle.std.specs.List.{list_any}
 use Rattle.std.proofs.lemmas.List.{reverse-append}
@@ -63,7 +63,7 @@ still_spawned v H (n ∷ t) h = at (spawns (n ∷ t) v)
     at true = refl
     at false = h
 
--- behind a step
+-- after a step
 pub lawful_step : (v : Event) (H : History) (claims : Claims) (p : Name → Bool) → AreLawful H claims → AreLawful (v ∷ H) (withdrawn p claims)
 lawful_step v H claims p l = lawful_on H (v ∷ H) (withdrawn p claims) (λ seat t h s. still_spawned v H t s) (lawful_fewer H claims p l)
 
@@ -89,7 +89,7 @@ still_there : (e : StepId) (H : History) (t : Name) → IsSpawned H t → is_hit
 still_there e H [] s h = refl
 still_there e H (n ∷ t) s h = left_spawned e (n ∷ t) H s h
 
--- behind a rollback
+-- after a rollback
 pub lawful_rolled : (e : StepId) (H : History) (claims : Claims) → AreLawful H claims → AreLawful (without e H) (withdrawn (is_hit (removals e H)) claims)
 lawful_rolled e H claims l =
     lawful_on H (without e H) (withdrawn (is_hit (removals e H)) claims)

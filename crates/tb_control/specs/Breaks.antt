@@ -1,4 +1,4 @@
--- Which steps meet a breakpoint, and the breakpoints that stand.
+-- Which steps meet a breakpoint, and the breakpoints that are there.
 use Rattle.std.specs.Prelude.{IsTrue, IsFalse, ℕ, List, [], ◌∷◌, ◌++◌, Bool, true, false, ◌&&◌, ◌||◌, ◌==◌, not, suc, nat_le, length, filter, Option, Some, None, if◌then◌else◌, ◌<◌, ◌≤◌, ⊤}
 use Rattle.std.specs.List.{list_any}
 use Rattle.tb_model.specs.declared.action.Action.{Action}
@@ -15,7 +15,7 @@ abbrev pub is_fault : Action → Bool
 is_fault Fault = true
 is_fault _ = false
 
--- a task that stood at the line took the step: a pending task stands at the line of its body
+-- a task that was at the line executed the step: a pending task is at the line of its body
 abbrev pub meets : ℕ → Event → Break → Bool
 meets line v (Task t) = is_of t v
 meets line v (Cell c) = touches c v.action
@@ -28,7 +28,8 @@ abbrev pub met : ℕ → Event → List Breakpoint → Option ℕ
 met line v [] = None
 met line v (b ∷ bs) = if meets line v b.at then Some b.number else met line v bs
 
--- the breakpoints that stand, in the order in which they were made, and the last number that was given
+-- the breakpoints that are there, in the order in which they were made, and the last number that
+-- was given
 pub record Points : Type 0 where
   pub standing : List Breakpoint
   pub given : ℕ
@@ -38,7 +39,8 @@ abbrev pub AreRising : ℕ → ℕ → List Breakpoint → Type 0
 AreRising low high [] = ⊤
 AreRising low high (b ∷ bs) = (low < b.number) × (b.number ≤ high) × AreRising b.number high bs
 
--- 64 stand at most, the last number is 1,000,000, and each that stands has a number of its own, at most the last that was given
+-- 64 are there at most, the last number is 1,000,000, and each that is there has a number of its
+-- own, at most the last that was given
 pub record AreNumbered (p : Points) : Type 0 where
   pub few : length p.standing ≤ 64
   pub last : p.given ≤ 1000000
@@ -47,7 +49,7 @@ pub record AreNumbered (p : Points) : Type 0 where
 abbrev pub no_points : Points
 no_points = record { standing = []; given = 0 }
 
--- 64 stand, or all numbers were given
+-- 64 are there, or all numbers were given
 abbrev pub are_too_many : Points → Bool
 are_too_many p = nat_le 64 (length p.standing) || nat_le 1000000 p.given
 
@@ -58,7 +60,7 @@ with_break p at = record { standing = p.standing ++ record { number = suc p.give
 abbrev pub has_number : ℕ → Breakpoint → Bool
 has_number n b = b.number == n
 
--- a breakpoint with this number stands
+-- a breakpoint with this number is there
 abbrev pub is_standing : ℕ → Points → Bool
 is_standing n p = list_any (has_number n) p.standing
 

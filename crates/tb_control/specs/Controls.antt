@@ -1,4 +1,4 @@
--- What a step and a removal change beside the journal.
+-- What a step and a removal change besides the journal.
 use Rattle.std.specs.Prelude.{ℕ, List, Some}
 use Rattle.tb_model.specs.declared.event.Event.{Event}
 use Rattle.tb_model.specs.Names.{Name, same_name}
@@ -8,7 +8,7 @@ use Rattle.tb_control.specs.Claims.{with_claim, withdrawn, is_hit}
 use Rattle.tb_control.specs.Breaks.{met}
 use Rattle.tb_control.specs.Modes as modes
 
--- a step of a task that stood at the line: the claim on the task ends, and the mode counts the step
+-- a step of a task that was at the line: the claim on the task ends, and the mode counts the step
 abbrev pub behind_step : ℕ → Event → Control → Control
 behind_step line v c = record {
   claims = withdrawn (same_name v.task) c.claims;

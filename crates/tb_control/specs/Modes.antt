@@ -1,4 +1,4 @@
--- Whether steps are taken, and what pauses them.
+-- Whether steps are executed, and what pauses them.
 use Rattle.std.specs.Prelude.{ℕ, Bool, true, false, ◌-◌, ◌==◌, Option, Some, None, if◌then◌else◌}
 use Rattle.tb_control.specs.declared.mode.Mode.{Mode}
 use Rattle.tb_control.specs.declared.mode.Mode.TheVariants.{Counting, Paused}
@@ -22,7 +22,8 @@ abbrev pub counted : Mode → Mode
 counted (Counting left) = counting (left - 1)
 counted m = m
 
--- behind a step: the breakpoint that it met pauses, also where the step is the last of those that were asked for
+-- after a step: the breakpoint that it met pauses, also where the step is the last of those that
+-- were asked for
 abbrev pub behind : Option ℕ → Mode → Mode
 behind (Some number) m = Paused (Break number)
 behind None m = counted m

@@ -1,4 +1,4 @@
--- The refusals of a breakpoint and of a claim by their numbers.
+-- The refusals of a breakpoint and of a claim by their codes.
 use Rattle.std.specs.Prelude.{ℕ}
 use Rattle.tb_control.specs.declared.break_refusal.BreakRefusal.{BreakRefusal}
 use Rattle.tb_control.specs.declared.break_refusal.BreakRefusal.TheVariants.{Memory, TooMany, NoSuchBreak, NoSuchBody, NoSuchCell}

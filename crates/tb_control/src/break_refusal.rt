@@ -19,7 +19,7 @@ pub enum BreakRefusal {
 }
 
 impl BreakRefusal {
-    /// The number by which replies name the refusal.
+    /// The code by which replies name the refusal.
     pub fn number(&self) -> u8
         ensures { result ≡ break_number self.now }
     {

@@ -11,8 +11,8 @@ use std::alloc::Global;
 use std::marker::Model;
 use tb_model::{Action, TaskName};
 
-/// Numbered breakpoints. A number is never used again; at most 64 stand at once, and the last number
-/// is 1,000,000.
+/// Numbered breakpoints. A number is never used again; at most 64 are set at once, and the last
+/// number is 1,000,000.
 #[derive(Debug, Drop)]
 pub struct Breakpoints {
     standing: Vec<Breakpoint>,
@@ -62,22 +62,22 @@ impl Breakpoints {
         Ok(self.given)
     }
 
-    /// Whether a breakpoint with this number stands.
+    /// Whether a breakpoint with this number is there.
     pub fn stands(&self, number: u32) -> bool
         ensures { result ≡ is_standing number self.now }
     {
         is_standing(&self.standing, number)
     }
 
-    /// Takes a breakpoint away, where it stands. Takes no memory.
+    /// Takes a breakpoint away, where it is. Takes no memory.
     pub fn clear(&mut self, number: u32)
         ensures { self.new ≡ without_break number self.old }
     {
         drop_number(&mut self.standing, number);
     }
 
-    /// The number of the first breakpoint that the step meets, which the task took with this action.
-    /// The task stood at this line.
+    /// The number of the first breakpoint that the step meets, which the task took with this
+    /// action. The task was at this line.
     #[inline(always)]
     pub fn met(&self, line: u32, task: &TaskName, action: &Action) -> Option<u32>
         ensures { result ≡ met line (record { task = task.now; action = action.now }) self.now.standing }
@@ -85,7 +85,7 @@ impl Breakpoints {
         first_met(&self.standing, line, task, action)
     }
 
-    /// The breakpoints that stand, in the order in which they were made.
+    /// The breakpoints that are there, in the order in which they were made.
     pub fn as_slice(&self) -> &[Breakpoint]
         ensures standing { result.now ≡ self.now.standing }
         ensures numbered { AreNumbered self.now }

@@ -22,8 +22,8 @@ pub enum Break {
 }
 
 impl Break {
-    /// Whether the step, which the task took with this action, is of this kind. The task stood at this
-    /// line.
+    /// Whether the step, which the task took with this action, is of this kind. The task was at
+    /// this line.
     pub fn meets(&self, line: u32, task: &TaskName, action: &Action) -> bool
         ensures { result ≡ meets line (record { task = task.now; action = action.now }) self.now }
     {

@@ -17,7 +17,7 @@ pub enum ClaimRefusal {
 }
 
 impl ClaimRefusal {
-    /// The number by which replies name the refusal.
+    /// The code by which replies name the refusal.
     pub fn number(&self) -> u8
         ensures { result ≡ claim_number self.now }
     {

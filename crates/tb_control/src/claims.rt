@@ -96,7 +96,7 @@ impl Claims {
         }
     }
 
-    /// Ends the seat's claim, and tells it.
+    /// Ends the seat's claim, and returns it.
     pub fn take(&mut self, seat: u32) -> Option<TaskName>
         requires { seat < length self.old }
         ensures claim { result ≡ claim_of self.old seat }

@@ -1,4 +1,4 @@
-//! What stands beside the journal: claims, breakpoints and mode.
+//! What a run has besides the journal: claims, breakpoints and mode.
 
 ghost use Rattle.std.specs.Prelude.{◌≡◌, [], ◌∷◌};
 ghost use Rattle.tb_control.specs.Controls.{behind_step, behind_removal};
@@ -18,8 +18,8 @@ pub struct Control {
 }
 
 impl Control {
-    /// The task, which stood at this line, took a step with this action: the claim on the task ends,
-    /// and the mode counts the step.
+    /// The task, which was at this line, executed a step with this action: the claim on the task
+    /// ends, and the mode counts the step.
     #[inline(always)]
     pub fn step_taken(&mut self, line: u32, task: &TaskName, action: &Action)
         ensures { self.new ≡ behind_step line (record { task = task.now; action = action.now }) self.old }

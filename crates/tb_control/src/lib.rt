@@ -1,4 +1,5 @@
-//! What stands beside a run's journal: the seats' claims, the breakpoints, and whether steps are taken.
+//! What a run has besides its journal: the seats' claims, the breakpoints, and whether steps are
+//! executed.
 #![tactic(auto)]
 
 mod break_refusal;

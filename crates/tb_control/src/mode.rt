@@ -1,11 +1,11 @@
-//! Whether steps are taken.
+//! Whether steps are executed.
 
 ghost use Rattle.std.specs.Prelude.{◌≡◌};
 ghost use Rattle.tb_control.specs.Modes as modes;
 
 use crate::paused_by::PausedBy;
 
-/// Whether claims give work and commits are taken, and for how long.
+/// Whether claims give work and commits come, and for how long.
 #[derive(Clone, Copy, Debug, Drop, PartialEq, Eq)]
 pub enum Mode {
     Resumed,
@@ -34,7 +34,7 @@ impl Mode {
         }
     }
 
-    /// The mode after a call of `pause`. A paused run keeps what paused it.
+    /// The mode after a call of `pause`. A paused run retains what paused it.
     pub fn paused(self) -> Mode
         ensures { result ≡ modes.paused self }
     {

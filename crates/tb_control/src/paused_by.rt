@@ -1,6 +1,6 @@
 //! What paused a run.
 
-/// Why no further step is taken.
+/// Why no further step is executed.
 #[derive(Clone, Copy, Debug, Drop, PartialEq, Eq)]
 pub enum PausedBy {
     /// A step met the breakpoint with this number.

@@ -1,4 +1,4 @@
--- Entries that stay are moved over those that go.
+-- Stored steps that stay are moved over those that go.
 use Rattle.std.proofs.Common.{◌≡◌, ◌<◌, ◌≤◌, ◌+◌, ℕ, List, [], ◌∷◌, ◌++◌, Bool, true, false, length, take, drop, set, get_or, ltb, refl, sym, ap, ◌∙◌, arith, append_assoc, append-nil}
 use Rattle.std.proofs.Math.ListN.{drop_of_length-le}
 use Rattle.std.proofs.lemmas.Bool.{ltb-true, ltb-false}
@@ -7,7 +7,7 @@ use Rattle.tb_places.specs.Renumbering.{goes_at, left_from}
 use Rattle.tb_core.specs.declared.entry.Entry.{Entry as Stored}
 use Rattle.tb_core.proofs.RenumberLemmas.{drop_one, left_gone, left_kept, left_whole, some_entry}
 
--- the entries in front of the one place are done, and so many of these that stay come first
+-- the stored steps in front of the one index are done, and so many of these that stay come first
 pub record Closes (going : List ℕ) (old now : List Stored) (at stay next : ℕ) : Type 0 where
   pub len : length now ≡ length old
   pub order : stay ≤ at

@@ -72,7 +72,7 @@ module _ (s : Tables) (t : Name) (o : Option ℕ) (n : ℕ) (c : IsCount s t o) 
 
 -- ---- the nth child of a task
 
--- a name whose first number is n, and that is a child of t
+-- a name whose first ordinal is n, and that is a child of t
 pub nth_child : (name t : Name) (n m : ℕ) (b : Bool) → slice_get name 0 ≡ Some m → m ≡ n → b ≡ is_child t name → IsTrue b ↔ (name ≡ child t n)
 nth_child [] t n m b first same e = absurd cc
 nth_child (k ∷ p) t n m b first same e = (
@@ -80,7 +80,7 @@ nth_child (k ∷ p) t n m b first same e = (
   λ h. e ∙ ap (is_child t) h ∙ same_refl t,
 )
 
--- a name with another number is another child's
+-- a name with another ordinal is another child's
 pub other_child : (name t : Name) (n m : ℕ) → slice_get name 0 ≡ Some m → (m ≡ n → ⊥) → name ≡ child t n → ⊥
 other_child [] t n m first differ e = cc
 other_child (k ∷ p) t n m first differ e = differ (sym (ap (λ o. unwrap_or o 0) first) ∙ ap (λ x. unwrap_or (slice_get x 0) 0) e)
@@ -90,7 +90,7 @@ other_child (k ∷ p) t n m first differ e = differ (sym (ap (λ o. unwrap_or o 
 abbrev event : Name → Action → Event
 event t a = record { task = t; action = a }
 
--- a load reads the number that was read
+-- a load reads the value that was read
 pub load_filled : (s : Tables) (t : Name) (a b : Action) (r c : ℕ) (x y : ℤ) → ((first : Cells) (root_line : ℕ) (D : List Departure) → IsState first root_line D s → y ≡ last (first_number first c) c (events_of D)) → a ≡ Load r c x → b ≡ Load r c y → Fills s t a (record { task = t; action = b })
 load_filled s t a b r c x y reads is made first root_line D k h =
     ap (λ e. event t e) (made ∙ ap (Load r c) (reads first root_line D k) ∙ ap (completed first (events_of D) t) (sym is))

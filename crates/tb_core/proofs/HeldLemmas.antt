@@ -1,4 +1,5 @@
--- What holds of a core that stores these entries, where the history that they say is known otherwise.
+-- What holds of a core that stores these stored steps, where the history that they say is known
+-- otherwise.
 use Rattle.std.proofs.Common.{◌≡◌, ◌<◌, ◌≤◌, ℕ, List, [], ◌∷◌, ◌++◌, Option, Some, length, map, reverse, get_or, slice_get, refl, sym, ap, ◌∙◌, subst, arith}
 use Rattle.std.specs.Prelude.{Result, Ok, Err, OnErr}
 use Rattle.std.specs.List.{AllZip}
@@ -36,7 +37,7 @@ use Rattle.tb_core.proofs.TakenLemmas.{sound_same, index_same, index_added, appe
 pub as_many : (names : List Name) (ss : List Stored) (es : List Entry) → AllZip (IsStored names) ss es → length (map departure (reverse es)) ≡ length ss
 as_many names ss es z = length-map (reverse es) departure ∙ length-reverse es ∙ AllZip-long (IsStored names) ss es z
 
--- few entries are stored
+-- few stored steps are stored
 pub few_stored : (first : Cells) (root_line limit : ℕ) (ss : List Stored) (es : List Entry) (tables : Tables) → AllZip (IsStored (names_in tables)) ss es → IsSound first root_line limit (reverse es) tables → length ss ≤ 1000000
 few_stored first root_line limit ss es tables z sound = omega (arith, sound.within, sound.bound, length-reverse es, AllZip-long (IsStored (names_in tables)) ss es z)
 
@@ -58,7 +59,7 @@ held first root_line limit ss es tables p sound z index =
       stored = subst (AllZip (IsStored (names_in tables)) ss) (sym same) z;
     }
 
--- where only room has changed
+-- where only capacity has changed
 pub held_same : (first : Cells) (root_line limit : ℕ) (ss left : List Stored) (was now : Tables) (old new : Places) → left ≡ ss → AreSame was now → KeepsNames was.waits.tasks now.waits.tasks
     → ((names : List Name) (events : List Event) → IsIndexOf names events old → IsIndexOf names events new)
     → IsSound first root_line limit (reverse (entries_in was ss)) was → IsIndexOf (names_in was) (events_in (entries_in was ss)) old → AllZip (IsStored (names_in was)) ss (entries_in was ss)
@@ -74,7 +75,7 @@ pub shown_run : (first : Cells) (root_line limit : ℕ) (ss : List Stored) (es :
     → seen first root_line limit (reverse (entries_in tables ss)) ≡ seen first root_line limit (reverse es)
 shown_run first root_line limit ss es tables p h = ap (λ l. seen first root_line limit (reverse l)) h.say
 
--- ---- only rooms have grown, and what is reserved has its own
+-- ---- only capacities have grown, and what is reserved has its own
 
 module _ (first : Cells) (root_line limit : ℕ) (ss : List Stored) (was : Tables) (old : Places) (reserved : Option Event) (room : ℕ)
     (sound : IsSound first root_line limit (reverse (entries_in was ss)) was) (has : HasReserved reserved room was old)
@@ -117,7 +118,7 @@ module _ (first : Cells) (root_line limit : ℕ) (ss : List Stored) (was : Table
     same = ap (λ l. shown l was) kept;
   }
 
--- ---- one entry more
+-- ---- one stored step more
 
 name_there : (names : List Name) (t : Name) (n : ℕ) → number_of names t ≡ Some n → slice_get names n ≡ Some t
 name_there names t n at =

@@ -41,12 +41,12 @@ zip_at R (v ∷ xs) [] i x y z h a b = absurd z
 zip_at R (v ∷ xs) (w ∷ ys) zero x y z h a b = subst (λ k. R k y) (sym a) (subst (λ k. R v k) (sym b) z.0)
 zip_at R (v ∷ xs) (w ∷ ys) (suc i) x y z h a b = zip_at R xs ys i x y z.1 (omega (arith, h)) a b
 
--- the first entries of those that are stored
+-- the first stored steps of those that are stored
 module _ (names : List Name) (ss : List Stored) (es front : List Entry) (count : ℕ) (z : AllZip (IsStored names) ss es) (within : count ≤ length ss) (view : take count es ≡ front) where
   pub front_len : length front ≡ count
   front_len = sym (ap length view) ∙ length-take-le count es (omega (arith, within, AllZip-long (IsStored names) ss es z))
 
-  -- each is what is stored at its place
+  -- each is what is stored at its index
   pub stored_here : (at : ℕ) (s : Stored) (e : Entry) → at < length front → s ≡ get_or ss at s → e ≡ get_or front at e → IsStored names s e
   stored_here at s e inside here is =
       let below : at < count = omega (arith, inside, front_len) in

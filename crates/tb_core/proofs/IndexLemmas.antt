@@ -40,11 +40,11 @@ from_oldest (x ∷ es) =
 pub shown : (first : Cells) (root_line limit : ℕ) (es : List Entry) (s : Seen) (p : Event → Bool) (found : List ℕ) → seen first root_line limit (reverse es) ≡ s → found ≡ places_where p (events_in es) → found ≡ places_where p (reverse (history s))
 shown first root_line limit es s p found is here = here ∙ ap (places_where p) (sym (from_oldest es) ∙ ap (λ (z : Seen). reverse (history z)) is)
 
--- there are few entries
+-- there are few stored steps
 pub few_entries : (first : Cells) (root_line limit : ℕ) (es : List Entry) (tables : Tables) → IsSound first root_line limit (reverse es) tables → length es ≤ 1000000
 few_entries first root_line limit es tables sound = omega (arith, sound.within, sound.bound, length-reverse es)
 
--- one entry was taken out
+-- one stored step was taken out
 pub index_removed : (es xs left : List Entry) (at : ℕ) (going : List ℕ) (p : Places) (was now : Tables) → xs ≡ es → going ≡ at ∷ [] → left ≡ remove es at → KeepsNames was.waits.tasks now.waits.tasks
     → IsIndexOf (names_in was) (left_from 0 going (events_in xs)) p → IsIndexOf (names_in now) (events_in left) p
 index_removed es xs left at going p was now same one gone keeps index =

@@ -1,4 +1,5 @@
--- A lent history is legal, as are those in front of its places, and what a task named at its spawn stays.
+-- A lent history is legal, as are those in front of its indexes, and what a task named at its spawn
+-- stays.
 use Rattle.std.proofs.Common.{◌≡◌, ◌≤◌, ◌<◌, ◌+◌, ◌∙◌, ℕ, suc, List, ◌∷◌, ◌++◌, Bool, Option, Some, None, IfSome, IfNone, slice_get, refl, sym, ap, subst, length, take, drop, reverse, get_or, arith}
 use Rattle.std.specs.List.{AllZip}
 use Rattle.std.specs.Option.{option_map}
@@ -30,7 +31,7 @@ use Rattle.tb_steps.proofs.ScanLemmas.{history_cut, history_of-append}
 use Rattle.tb_steps.proofs.FirstLemmas.{legal_front, front_legal, step_read}
 use Rattle.tb_core.proofs.OwnLemmas.{own_count, own_number}
 
--- the tables of a core are those of its entries
+-- the tables of a core are those of its stored steps
 pub left : (first : Cells) (root_line limit : ℕ) (tables : Tables) (index : Places) (ss : List Stored) → IsSound first root_line limit (reverse (entries_in tables ss)) tables
     → IsIndexOf (names_in tables) (events_in (entries_in tables ss)) index → AreLeft tables index (entries_in tables ss)
 left first root_line limit tables index ss s i = record {
@@ -41,12 +42,12 @@ left first root_line limit tables index ss s i = record {
   places = i;
 }
 
--- ---- the first entries
+-- ---- the first stored steps
 
 parted : (n : ℕ) (es : List Entry) → history_of es ≡ history_of (drop n es) ++ history_of (take n es)
 parted n es = ap history_of (sym (take-append-drop n es)) ∙ history_of-append (take n es) (drop n es)
 
--- those that are lent are legal
+-- the stored steps that are lent are legal
 pub front_left : (tables : Tables) (index : Places) (all front : List Entry) (count : ℕ) → AreLeft tables index all → take count all ≡ front → AreLegal front
 front_left tables index all front count left view = record {
   cells = left.cells;
@@ -62,7 +63,7 @@ items_left tables index all front count t left view s =
     ∙ items_settled left.cells b F t (subst (Legal left.cells) (parted count all) left.legal) (subst (λ es. IsSpawned (history_of es) t) (sym view) s)
     ∙ ap (λ es. items_of t (history_of es)) view
 
--- ---- the task of an entry was generated in front of it
+-- ---- the task of a stored step was generated in front of it
 
 pub spawned_at : (entries : List Entry) (at : ℕ) (e : Entry) → at < length entries → e ≡ get_or entries at e → AreLegal entries → IsSpawned (history_of (take at entries)) e.event.task
 spawned_at entries at e within here l =
@@ -87,7 +88,7 @@ pub all_within : (names : List Name) (ss : List Stored) (es : List Entry) (count
 all_within names ss es count z within = omega (arith, within, AllZip-long (IsStored names) ss es z)
 
 module _ (p : Event → Bool) (all front : List Entry) (count : ℕ) (view : take count all ≡ front) (within : count ≤ length all) where
-  -- an entry that is lent is one of all
+  -- a stored step that is lent is one of all
   read : (k : ℕ) (e : Entry) → k < count → e ≡ get_or front k e → slice_get (events_in all) k ≡ Some e.event
   read k e l here =
       let one : e ≡ get_or all k e = here ∙ ap (λ (es : List Entry). get_or es k e) (sym view) ∙ get_or-take count all k e l in
@@ -111,7 +112,7 @@ module _ (p : Event → Bool) (all front : List Entry) (count : ℕ) (view : tak
   if_none before None high h = none_between 0 before high h
   if_none before (Some at) high h = tt
 
--- the nth of a task's places has n of its steps in front of it
+-- the nth of a task's indexes has n of its steps in front of it
 pub ranked : (all front : List Entry) (count : ℕ) (view : take count all ≡ front) (within : count ≤ length all) (at : ℕ) (e : Entry) (own_places : List ℕ) (n d : ℕ) → at < count → e ≡ get_or front at e
     → own_places ≡ places_where (is_of e.event.task) (events_in all) → n < length own_places → get_or own_places n d ≡ at → n ≡ length (own e.event.task (history_of (take at front)))
 ranked all front count view within at e own_places n d l here is inside there =
@@ -121,7 +122,7 @@ ranked all front count view within at e own_places n d l here is inside there =
     let same : take at all ≡ take at front = sym (take-take at count all (omega (arith, l))) ∙ ap (take at) view in
     omega (arith, number, ap (λ (es : List Entry). length (own e.event.task (history_of es))) same)
 
--- so it has the number after that
+-- a stored step in front of which are n of its task has the ordinal n + 1
 module _ (entries : List Entry) (at : ℕ) (e : Entry) (n : ℕ) (within : at < length entries) (here : e ≡ get_or entries at e) (rank : n ≡ length (own e.event.task (history_of (take at entries)))) where
   pub rank_few : n ≤ at
   rank_few =

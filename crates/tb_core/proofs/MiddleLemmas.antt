@@ -1,4 +1,4 @@
--- A step that nothing needs is taken out of the entries, wherever it stands.
+-- A step that nothing needs is taken out of the stored steps, wherever it is.
 use Rattle.std.proofs.Common.{◌≡◌, ℕ, List, [], ◌∷◌, ◌++◌, map, refl, sym, ap, ◌∙◌}
 use Rattle.tb_model.specs.Legal.{Cells}
 use Rattle.tb_model.specs.Lines.{events_of}
@@ -24,7 +24,7 @@ records_left first root_line (w ∷ later) front e r f = (
       ∙ ap (λ D. replaced_for first root_line D w.event) (sym (departures_append later front)),
 )
 
--- so is that of the step itself
+-- the record of the step itself is right
 pub record_at : (first : Cells) (root_line : ℕ) (later front : List Entry) (e : Entry) → AreRecords first root_line (later ++ e ∷ front) → replaced_in e ≡ replaced_for first root_line (map departure front) e.event
 record_at first root_line [] front e r = r.1
 record_at first root_line (w ∷ later) front e r = record_at first root_line later front e r.0

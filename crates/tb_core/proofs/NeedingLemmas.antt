@@ -1,4 +1,5 @@
--- The entries that are passed over, where the first that needs a step is looked for, don't need it.
+-- The stored steps that are passed over, where the first that needs a step is looked for, don't
+-- need it.
 use Rattle.std.proofs.Common.{◌≡◌, ◌<◌, ◌≤◌, ◌+◌, ◌-◌, ◌==◌, ℕ, zero, suc, List, [], ◌∷◌, ◌++◌, Bool, true, false, ◌&&◌, ◌||◌, Some, None, length, take, drop, get_or, refl, sym, ap, ◌∙◌, subst, arith, rules, tests, ltb}
 use Rattle.std.proofs.lemmas.Bool.{true≢false, ltb-true, ltb-false}
 use Rattle.std.proofs.lemmas.List.{get_or_default}
@@ -181,7 +182,7 @@ second_false true b h = absurd (true≢false h)
 no_wait : (a b c d e x y : Bool) → a ≡ false → b ≡ false → c ≡ false → x ≡ false → y ≡ false → e ≡ false → (a || (b || (c || ((d && (x || y)) || e)))) ≡ false
 no_wait a b c d e x y pa pb pc px py pe = rw (pa, pb, pc, px, py, pe) (ap (λ z. z || false) (no_right d))
 
--- the entry may not need the end
+-- the stored step may not need the end
 end_not_needed : (some : Bool) (front : List Entry) (v u : Event) → AreLegal front → is_end u.action ≡ true → (some ≡ false → items_of u.task (history_of front) ≡ []) → may_wait_for some v.action v.task u.task ≡ false → needs (history_of front) v u ≡ false
 end_not_needed some front v u legal ends no_items none =
     let H = history_of front in
@@ -193,7 +194,7 @@ end_not_needed some front v u legal ends no_items none =
     (other_way v.task u.task (second_false (is_child v.task u.task) _ names)) p.spawns (conflict_none v.action u.action p.cells) (held (holds (own v.task H) u.task) refl)
     (waits_none some H v.task v.action u.task no_items (first_false (may_wait some v.action) _ none)) p.prints
 
--- one entry more
+-- one stored step more
 pub none_waits : (some : Bool) (entries : List Entry) (at from next : ℕ) (u w : Entry) → AreLegal entries → at < length entries → next < length entries → u ≡ get_or entries at u → w ≡ get_or entries next w → is_end u.event.action ≡ true
     → (some ≡ false → items_of u.event.task (history_of entries) ≡ []) → may_wait_for some w.event.action w.event.task u.event.task ≡ false → NoneNeeds entries at from next → NoneNeeds entries at from (next + 1)
 none_waits some entries at from next u w legal within inside here there ends no_items apart none k v x low high v_there x_there = by (ltb k next) refl
@@ -218,7 +219,7 @@ none_needs entries at from own next to u within here going low high others apart
     subst (λ (x : Entry). needs (history_of (take k entries)) v.event x.event ≡ false) one
     (not_needed (history_of (take k entries)) v.event u.event (others k v from_k (omega (arith, to_k, low)) there) (apart k v from_k (omega (arith, to_k, high)) there) going)
 
--- so up to there is none still
+-- where none of so many stored steps needs the step, there is no first needer up to there
 pub none_passed : (entries : List Entry) (at from n : ℕ) (id : StepId) → AreLegal entries → step_at entries at ≡ Some id → at < from → from + n ≤ length entries → NoneNeeds entries at from (from + n)
     → first_needer id (history_of (take from entries)) ≡ None → first_needer id (history_of (take (from + n) entries)) ≡ None
 none_passed entries at from zero id legal step behind within none yet = let same : from ≡ from + 0 = omega arith in subst (λ k. first_needer id (history_of (take k entries)) ≡ None) same yet

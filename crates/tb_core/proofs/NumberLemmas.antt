@@ -1,4 +1,4 @@
--- The numbers of tasks: each task that stands has one, and keeps it.
+-- The ids of tasks: each task that is there has one, and retains it.
 use Rattle.std.proofs.Common.{◌≡◌, ◌<◌, ◌+◌, ◌||◌, ℕ, suc, List, [], ◌∷◌, Bool, true, false, not, cond, Option, Some, None, is_some, length, map, reverse, refl, sym, ap, ◌∙◌, subst, arith}
 use Rattle.std.specs.List.{list_any, position_or_len}
 use Rattle.std.specs.Map.{keys_of}
@@ -21,7 +21,7 @@ use Rattle.tb_steps.specs.Entries.{Entry, departure}
 use Rattle.tb_core.specs.Seen.{Seen, history}
 use Rattle.tb_core.specs.Soundness.{names_in, seen, IsSound}
 
--- ---- who is there has a place
+-- ---- who is there has an index
 
 first_within : (p : Name → Bool) (names : List Name) → list_any p names ≡ true → position_or_len p names < length names
 first_within p [] h = absurd (false≢true h)
@@ -45,7 +45,7 @@ kin_place tasks t k e = any_place tasks t (sym (is_some-lookup (same_name t) tas
     by None h = let clash : ◌≡◌ {A = Option Kin} None (Some k) = sym (ap kin_in h) ∙ e in cc
     by (Some s) h = ap is_some h
 
--- the task of an event that may follow has a number
+-- the task of an event that may follow has an ordinal
 pub named_next : (first : Cells) (root_line limit : ℕ) (es : List Entry) (tables : Tables) → IsSound first root_line limit (reverse es) tables → (s : Seen) → seen first root_line limit (reverse es) ≡ s → (v : Event)
     → MayFollow s.cells (history s) v → IsNamed (names_in tables) v
 named_next first root_line limit es tables sound s is v may =
@@ -58,7 +58,7 @@ named_next first root_line limit es tables sound s is v may =
 pub index_kept : (old new : Tables) (es : List Event) (p : Places) → KeepsNames old.waits.tasks new.waits.tasks → IsIndexOf (names_in old) es p → IsIndexOf (names_in new) es p
 index_kept old new es p keeps index = subst (λ names. IsIndexOf names es p) (sym keeps.1) (index_grown (names_in old) keeps.0 es p index)
 
--- so the room for its place serves where more names have come
+-- the capacity for an index serves also where more names have come
 pub room_along : (old new : Tables) (p : Places) (v : Event) → KeepsNames old.waits.tasks new.waits.tasks → IsNamed (names_in old) v → HasRoomFor (names_in old) p v → HasRoomFor (names_in new) p v
 room_along old new p v keeps named room =
     subst (λ names. HasRoomFor names p v) (sym keeps.1) (subst (λ n. HasRoomAs p n v.action) (sym (number_grown (names_in old) keeps.0 v.task named)) room)

@@ -1,4 +1,4 @@
--- The steps of a task by their places.
+-- The steps of a task by their indexes.
 use Rattle.std.proofs.Common.{◌≡◌, ◌<◌, ◌≤◌, ◌+◌, ◌-◌, ℕ, zero, suc, List, [], ◌∷◌, ◌++◌, Bool, true, false, cond, Some, None, IsTrue, length, take, filter, get_or, slice_get, refl, sym, ap, ◌∙◌, subst, arith}
 use Rattle.std.proofs.lemmas.List.{length-map}
 use Rattle.std.proofs.lemmas.List.Sums.{length-filter, count_by-le-length}
@@ -17,9 +17,9 @@ use Rattle.tb_core.specs.Renumbering.{events_in}
 use Rattle.tb_steps.specs.Scans.{history_of, step_at, step_behind}
 use Rattle.tb_steps.proofs.ScanLemmas.{history_of-append, found_stands, found_step_at, numbered}
 
--- ---- one place of those at which a test passes
+-- ---- one index of those at which a test passes
 
--- the jth is that of an entry at which it passes, and j pass in front of it
+-- the jth is that of a stored step at which it passes, and j pass in front of it
 record IsNth (n : ℕ) (p : Event → Bool) (es : List Entry) (j at : ℕ) : Type 0 where
   index : ℕ
   entry : Entry
@@ -91,7 +91,7 @@ module _ (es : List Entry) (own_places : List ℕ) (i : StepId) (is : own_places
     pub step : step_at es at ≡ Some i
     pub within : at < length es
 
-  -- the place of the kth is that of the task's kth step
+  -- the index of the kth is that of the task's kth step
   pub own_step : (j at : ℕ) → j + 1 ≡ i.k → slice_get own_places j ≡ Some at → IsOwn at
   own_step j at number h =
       let r = nth 0 (is_of i.task) es j at (ap (λ l. slice_get l j) (sym is) ∙ h) in
@@ -108,7 +108,7 @@ module _ (es : List Entry) (own_places : List ℕ) (i : StepId) (is : own_places
   pub places_counted : length own_places ≡ length (own i.task (history_of es))
   places_counted = ap length is ∙ places_count 0 (is_of i.task) (events_in es) ∙ sym (own_count i.task es)
 
-  -- a step that stands has a number, and its place is there
+  -- a step that is there has an ordinal, and its index is there
   pub own_at : (b : Bool) (d : ℕ) → ((H : History) → length own_places ≡ length (own i.task H) → b ≡ stands i H) → b ≡ true → IsOwn (get_or own_places (i.k - 1) d)
   own_at b d test there =
       let n = numbered i (history_of es) (sym (test (history_of es) places_counted) ∙ there) in
@@ -119,10 +119,10 @@ module _ (es : List Entry) (own_places : List ℕ) (i : StepId) (is : own_places
       let n = numbered i (history_of es) (sym (test (history_of es) places_counted) ∙ there) in
       (n.0, omega (arith, n.1, places_counted))
 
--- ---- the number of the step at a place
+-- ---- the ordinal of the step at an index
 
 module _ (es : List Entry) (own_places : List ℕ) (at : ℕ) (e : Entry) (is : own_places ≡ places_where (is_of e.event.task) (events_in es)) (within : at < length es) (here : e ≡ get_or es at e) where
-  -- it is one more than how many of its task's places come in front of it
+  -- it is one more than how many of its task's indexes come in front of it
   pub own_number : (j : ℕ) (d : ℕ) → j < length own_places → get_or own_places j d ≡ at → (id : StepId) → step_at es at ≡ Some id → j + 1 ≡ id.k
   own_number j d inside there id step =
       let r = nth 0 (is_of e.event.task) es j at (ap (λ l. slice_get l j) (sym is) ∙ slice_get-get_or own_places j d inside ∙ ap Some there) in

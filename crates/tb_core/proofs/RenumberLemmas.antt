@@ -1,4 +1,4 @@
--- The places of the entries, where some of these go.
+-- The indexes of the stored steps, where some of these go.
 use Rattle.std.proofs.Common.{◌≡◌, ◌<◌, ◌≤◌, ◌+◌, ◌==◌, ℕ, zero, suc, List, [], ◌∷◌, ◌++◌, Bool, true, false, length, take, drop, get_or, reverse, remove, refl, sym, ap, ap₂, ◌∙◌, subst, arith, rules, append_assoc, append-nil, add-one, if◌then◌else◌, not}
 use Rattle.std.specs.List.{AllByRecursion}
 use Rattle.std.proofs.lemmas.List.{length-append, length-map, length-reverse, length-take-le, reverse-append, take-append-drop}
@@ -28,7 +28,7 @@ left_front k (suc n) gs (e ∷ es) none =
 pub left_whole : {X : Type 0} (n : ℕ) (gs : List ℕ) (es : List X) → ((at : ℕ) → at < n → goes_at at gs ≡ false) → take n es ++ left_from n gs (drop n es) ≡ left_from 0 gs es
 left_whole n gs es none = ap (λ j. take n es ++ left_from j gs (drop n es)) (omega arith) ∙ left_front 0 n gs es (λ at below. none at (omega (arith, below)))
 
--- ---- what is left of the places that go
+-- ---- what is left of the indexes that go
 
 abbrev rest_from : ℕ → List ℕ → List Event → List ℕ
 rest_from at gs [] = gs
@@ -69,7 +69,7 @@ parts k gs (e ∷ es) ys n h = by (goes_at k gs) refl (parts (k + 1) (drop 1 gs)
       rest = rest_kept k gs e (es ++ ys) t ∙ q.rest ∙ ap (λ r. rest_from n r ys) (sym (rest_kept k gs e es t));
     }
 
--- a place behind them all is left
+-- an index after them all is left
 record Later (k : ℕ) (gs : List ℕ) (es : List Event) (n : ℕ) : Type 0 where
   left : left_from k (gs ++ n ∷ []) es ≡ left_from k gs es
   rest : rest_from k (gs ++ n ∷ []) es ≡ rest_from k gs es ++ n ∷ []
@@ -103,7 +103,7 @@ later k (g ∷ gs) (e ∷ es) n h = by (g == k) refl (later (k + 1) gs es n (ome
 reverse_cons : {A : Type 0} (x : A) (xs : List A) → reverse (x ∷ xs) ≡ reverse xs ++ x ∷ []
 reverse_cons x xs = reverse-append (x ∷ []) xs
 
--- the places of what goes rise
+-- the indexes of what goes rise
 rise_push : (low n : ℕ) (xs : List ℕ) → low ≤ n → RiseFrom low xs → AllByRecursion (λ x. x < n) xs → RiseFrom low (xs ++ n ∷ [])
 rise_push low n [] l rise under = (l, tt)
 rise_push low n (x ∷ xs) l rise under = (rise.0, rise_push (suc x) n xs (omega (arith, under.0)) rise.1 under.1)
@@ -132,7 +132,7 @@ risen e (v ∷ H) = by (is_removed e H v) (risen e H)
 pub removed_rise : (e : StepId) (H : History) (going : List ℕ) → going ≡ reverse (removed_places e H) → RiseFrom 0 going
 removed_rise e H going is = subst (RiseFrom 0) (sym is) (risen e H).rise
 
--- the places of what goes are used up, and what stays is left
+-- the indexes of what goes are used up, and what stays is left
 record Sweeps (e : StepId) (H : History) : Type 0 where
   rest : rest_from 0 (reverse (removed_places e H)) (reverse H) ≡ []
   left : left_from 0 (reverse (removed_places e H)) (reverse H) ≡ reverse (without e H)
@@ -198,7 +198,7 @@ map_remove (e ∷ es) (suc i) = ap (λ l. e.event ∷ l) (map_remove es i)
 pub left_removed : (es left : List Entry) (at : ℕ) → left ≡ remove es at → left_from 0 (at ∷ []) (events_in es) ≡ events_in left
 left_removed es left at h = left_one 0 at at (events_in es) (omega arith) ∙ map_remove es at ∙ ap events_in (sym h)
 
--- ---- one entry after another
+-- ---- one stored step after another
 
 pub take_last : (es : List Entry) (i : ℕ) (x : Entry) → i < length es → x ≡ get_or es i x → take (suc i) (events_in es) ≡ take i (events_in es) ++ x.event ∷ []
 take_last [] i x h is = absurd (omega (arith, h))
@@ -235,7 +235,7 @@ module _ (names : List Name) (first : ℕ) (es : List Entry) (at k : ℕ) (x : E
   front : take at whole_events ≡ take k whole_events ++ x.event ∷ []
   front = ap (λ n. take n whole_events) before ∙ take_last es k x inside here
 
-  -- the newest of the entries is taken off
+  -- the newest of the stored steps is taken off
   pub cuts_more : ((events : List Event) → IsIndexOf names (events ++ x.event ∷ []) old → IsIndexOf names events new) → KeepsRoom old new → Cuts names first whole_events k new
   cuts_more popped keeps = record {
     from = omega (arith, more, before);
@@ -270,11 +270,11 @@ module _ (names : List Name) (first : ℕ) (going : List ℕ) (es : List Entry) 
   next_room : HasRoomForAll names (r.done ++ x.event ∷ drop (suc at) (events_in es)) p
   next_room = subst (λ l. HasRoomForAll names (r.done ++ l) p) rest_is r.room
 
-  -- the entry has room
+  -- the stored step has capacity
   pub refills_room : HasRoomFor names p x.event
   refills_room = room_next names r.done (drop (suc at) (events_in es)) x.event p r.index next_room
 
-  -- and its task a number
+  -- and its task an id
   pub refills_named : IsNamed names x.event
   refills_named = named_next names r.done (drop (suc at) (events_in es)) x.event p next_room
 

@@ -1,4 +1,5 @@
--- A step and all that need it are taken off the entries from the newest on: each then is a step that nothing needs.
+-- A step and all that need it are taken off the stored steps from the newest on: each then is a
+-- step that nothing needs.
 use Rattle.std.proofs.Common.{◌≡◌, ◌≢◌, ◌<◌, ◌≤◌, ℕ, suc, List, [], ◌∷◌, ◌++◌, Bool, true, false, not, length, map, reverse, refl, sym, ap, ap₂, ◌∙◌, subst, arith, append_assoc, append-nil, Option, Some, IsSome}
 use Rattle.std.specs.Option.{option_to_list}
 use Rattle.std.specs.List.{AllByRecursion}
@@ -28,7 +29,7 @@ use Rattle.tb_core.specs.Soundness.{seen, IsSound}
 use Rattle.tb_core.specs.Unwinding.{events, kept_entries, gone_entries, AreTied, StayTied, Unwinds, Unwound}
 use Rattle.tb_core.proofs.MiddleLemmas.{departures_append, records_left, record_at}
 
--- ---- one entry that goes
+-- ---- one stored step that goes
 
 events_append : (later front : List Entry) → events (later ++ front) ≡ events later ++ events front
 events_append later front = ap events_of (departures_append later front) ∙ map_events (map departure later) (map departure front)
@@ -44,7 +45,7 @@ events_kept e (w ∷ later) front =
     prepended true = refl
     prepended false = refl
 
--- an entry of a sound list that nothing behind it needs is taken out
+-- a stored step of a sound list that nothing after it needs is taken out
 module _ (first : Cells) (root_line limit : ℕ) (later front : List Entry) (u : Entry) (tables : Tables) (sound : IsSound first root_line limit (later ++ u ∷ front) tables) (free : IsUnneeded (step_of (events front) u.event) (events later ++ u.event ∷ events front)) where
   abbrev whole : List Departure
   whole = map departure later ++ departure u ∷ map departure front
@@ -95,7 +96,7 @@ places_below e (v ∷ H) = at (is_removed e H v) (raised (removed_places e H) (p
     at true a = (omega arith, a)
     at false a = a
 
--- the greatest place that is left tells whether the newest event goes
+-- the greatest index that is left says whether the newest event goes
 module _ (e : StepId) (v : Event) (H : History) (ps : List ℕ) (at : ℕ) (left : ps ++ at ∷ [] ≡ reverse (removed_places e (v ∷ H))) where
   abbrev rest : List ℕ
   rest = removed_places e H
@@ -138,7 +139,7 @@ first_unwinds r old qs steps removed ready none places names = record {
 pub first_tied : (old : List Entry) (before : Tables) → StayTied (reverse old) before ([] ++ reverse old) before
 first_tied old before first root_line limit s = s
 
--- ---- one entry more
+-- ---- one stored step more
 
 kept_more : (e : StepId) (later : List Entry) (u : Entry) (front : List Entry)
     → kept_entries e (later ++ u ∷ []) front ≡ kept_entries e later (u ∷ front) ++ prepend_if (not (is_removed e (events front) u.event)) u []
@@ -171,7 +172,7 @@ gone_more e (w ∷ later) u front =
     prepended true = refl
     prepended false = refl
 
--- the newest entry is taken off
+-- the newest stored step is taken off
 module _ (e : StepId) (old es es' : List Entry) (o : Option Entry) (u : Entry) (off : es ≡ es' ++ option_to_list o) (got : o ≡ Some u) (kept : List Entry) (ps : List ℕ) (next : Option ℕ) (at : ℕ) (is : next ≡ Some at) (steps : List StepId) (removed : List Removed) (invariant : Unwinds e old es kept (ps ++ option_to_list next) steps removed) where
   popped : es ≡ es' ++ u ∷ []
   popped = off ∙ ap (λ x. es' ++ option_to_list x) got
@@ -321,7 +322,7 @@ unwound e old es kept ps steps removed before tables empty u t =
       tied = t;
     }
 
--- ---- the entries are whole again
+-- ---- the stored steps are whole again
 
 module _ (first : Cells) (root_line limit : ℕ) (es rest es' kept : List Entry) (before tables : Tables) (e : StepId) (removed : List Removed) (all : Unwound e es before rest kept tables removed) (put : es' ≡ rest ++ reverse kept) where
   whole_again : reverse es' ≡ kept ++ reverse rest

@@ -22,7 +22,7 @@ use Rattle.tb_core.proofs.IndexLemmas.{index_unwound}
 use Rattle.tb_core.proofs.RolledLemmas.{rolled_sound, rolls_back}
 use Rattle.tb_core.proofs.StoringLemmas.{all_kept}
 
--- of two lists that agree place by place the same places stay
+-- of two lists that agree index by index the same indexes stay
 zip_left : {A B : Type 0} (R : A → B → Type 0) (at : ℕ) (gs : List ℕ) (xs : List A) (ys : List B) → AllZip R xs ys → AllZip R (left_from at gs xs) (left_from at gs ys)
 zip_left R at gs [] [] z = tt
 zip_left R at gs [] (y ∷ ys) z = absurd z

@@ -1,4 +1,4 @@
--- What a core tells of a task, and why a plan is refused.
+-- What a core says of a task, and why a plan is refused.
 use Rattle.std.proofs.Common.{◌≡◌, ◌≢◌, ◌<◌, ◌+◌, ℕ, suc, ◌↔◌, ap₂, inl, inr, List, [], ◌∷◌, Bool, true, false, cond, length, refl, sym, ap, ◌∙◌, subst, arith, Option, Some, None, unwrap_or, nat_lt, nat_le}
 use Rattle.std.specs.List.{AllByRecursion, list_all}
 use Rattle.std.specs.Prelude.{IfSome, IfNone}
@@ -37,7 +37,7 @@ use Rattle.tb_core.specs.Refusals.{told_by}
 use Rattle.tb_core.specs.Naming.{config_with, IsStaleAnswer, IsNamed}
 use Rattle.tb_core.specs.Outcomes.{IsKept, IsKeptBy, IsTold, Fits, IsCurrent, IsOpen, IsStale, IsHindered, MayTake, Takes, Steps, Refuses, hindrance_of, has_ended, event_for, grown_by}
 
--- ---- where a task stands
+-- ---- where a task is
 
 module _ (s : Seen) (t : Name) (o : Option Standing) (told : o ≡ option_map standing_of (task_of s.root_line s.steps t)) where
   at_spawned : (b : Bool) → is_spawned (history s) t ≡ b → o ≡ option_map standing_of (cond b (Some (known_task s.root_line s.steps t)) None)
@@ -66,14 +66,14 @@ module _ (s : Seen) (t : Name) (o : Option Standing) (told : o ≡ option_map st
   pub stands_as : (st : Standing) → o ≡ Some st → config_of s t ≡ config_with t st
   stands_as st h = ap (config_with t) (ap (λ x. unwrap_or x st) (sym (at_spawned true (is_there st h)) ∙ h))
 
-  -- the configuration is told
+  -- the configuration is returned
   pub config_told : (st : Standing) → o ≡ Some st → Some (config_with t st) ≡ cond (is_spawned (history s) t) (Some (config_of s t)) None
   config_told st h = sym (ap (λ b. cond b (Some (config_of s t)) None) (is_there st h) ∙ ap Some (stands_as st h))
 
   pub none_told : o ≡ None → ◌≡◌ {A = Option Config} None (cond (is_spawned (history s) t) (Some (config_of s t)) None)
   none_told n = sym (ap (λ b. cond b (Some (config_of s t)) None) (not_there n))
 
--- where the task stands, as the call's answer tells it
+-- where the task is, as the call's answer says it
 pub some_stands : (s : Seen) (t : Name) (o : Option Standing) → o ≡ option_map standing_of (task_of s.root_line s.steps t) → IfSome o (λ k. (is_spawned (history s) t ≡ true) × (config_of s t ≡ config_with t k))
 some_stands s t None told = tt
 some_stands s t (Some k) told = (is_there s t (Some k) told k refl, stands_as s t (Some k) told k refl)
@@ -128,7 +128,7 @@ continues cells H t (Test b) p o s g = running (own t H) o (λ e. false≢true (
 continues cells H t End p o s g = running (own t H) o (λ e. false≢true (s.1 e))
 continues cells H t Fault p o s g = running (own t H) o (λ e. false≢true (s.1 e))
 
--- what is filled in keeps nothing from the action
+-- what is filled in blocks no action
 same_way : (cells : Cells) (H : History) (t : Name) (a : Action) → in_the_way H t (completed cells H t a) ≡ in_the_way H t a
 same_way cells H t (Load r c x) = refl
 same_way cells H t (Spawn s) = refl
@@ -164,7 +164,7 @@ may_take s t a legal may =
     let k = continues s.cells H t a may.allowed going may.starts may.closes in
     (nothing_in_the_way s.cells H t (completed s.cells H t a) may.spawned k (reads s.cells H t a)).0 (same_way s.cells H t a ∙ may.clear)
 
--- an open plan's action may be taken
+-- an open plan's action may be executed
 pub open_takes : (s : Seen) (p : Plan) → Fits s p → IsOpen s p → MayTake s p.config.task p.action
 open_takes s p fits o =
     let here = o.current.here in
@@ -178,7 +178,7 @@ open_takes s p fits o =
       room = o.room;
     }
 
--- where the plan's action is taken, its step is
+-- where the plan's action is executed, its step is
 pub takes_steps : (s : Seen) (p : Plan) (to : ℕ) (new : Seen) (v : Event) (i : StepId) → IsCurrent s p → length s.steps < s.limit → Takes s p.config.task p.action to new v → line_behind p.instr p.config p.action ≡ to → i.task ≡ p.config.task → i.k ≡ p.config.steps + 1 → Steps s p new i
 takes_steps s p to new v i current room k line task number =
     let counted : p.config.steps + 1 ≡ suc (length (own p.config.task (history s))) = omega (arith, ap (λ c. c.steps) current.here) in
@@ -212,7 +212,7 @@ stale_refuses s p now (Stale c) there going e n h = record { spawned = there; go
 stale_refuses s p now Memory there going e n h = inl (now, record { spawned = there; going = going; now_is = sym e; elsewhere = n })
 stale_refuses s p now _ there going e n h = absurd h
 
--- a refusal is right by what it tells
+-- a refusal is right by what it says
 told_refuses : (s : Seen) (p : Plan) (r : StepRefusal) (k : Refusal) → told_by r ≡ Some k → IsTold s p (Some k) → IsKept s p r
 told_refuses s p Memory k e w = absurd (none e)
   where
@@ -235,7 +235,7 @@ hindered_refuses s p h r c e n = told_refuses s p r (By h) n (record { current =
 pub kept_by : (s : Seen) (p : Plan) (r : StepRefusal) → IsCurrent s p → IsKeptBy s p.config.task p.action r → IsKept s p r
 kept_by s p r c k = hindered_refuses s p k.hindrance r c k.found k.named
 
--- what is kept is refused
+-- what is blocked is refused
 pub kept_refuses : (s : Seen) (p : Plan) (r : StepRefusal) → IsKept s p r → Refuses s p r
 kept_refuses s p Memory k = inr k
 kept_refuses s p _ k = k

@@ -1,4 +1,4 @@
--- One stored entry: its place, its number, and what it replaced.
+-- One stored step: its index, its ordinal, and what it replaced.
 use Rattle.std.proofs.Common.{◌≡◌, ◌<◌, ℕ, ℤ, List, Option, Some, length, get_or, sym, ap, ap₂, ◌∙◌, arith}
 use Rattle.std.specs.List.{AllZip, IsDistinct}
 use Rattle.std.proofs.lemmas.List.{length-map}
@@ -23,7 +23,7 @@ use Rattle.tb_core.proofs.RenumberLemmas.{some_entry}
 pub events_many : (names : List Name) (ss : List Stored) (es : List Entry) → AllZip (IsStored names) ss es → length ss ≡ length (events_in es)
 events_many names ss es z = sym (AllZip-long (IsStored names) ss es z) ∙ sym (length-map es (λ (e : Entry). e.event))
 
--- the entry at a place, which is stored so
+-- the stored step at an index, which is stored so
 pub record IsAt (names : List Name) (es : List Entry) (at : ℕ) (s : Stored) : Type 0 where
   pub entry : Entry
   pub within : at < length es
@@ -42,7 +42,7 @@ entry_there names ss es at z within =
     let w = some_entry es at inside in
     (w.0, inside, w.1)
 
--- its task has the number that is stored
+-- the task of a stored step has the id that is stored
 pub its_number : (names : List Name) (s : Stored) (e : Entry) → IsDistinct same_name names → IsStored names s e → Some s.task ≡ event_number names e.event
 its_number names s e distinct is = sym (number_at names s.task e.event.task e.event.task distinct is.task (same_refl e.event.task))
 
@@ -59,6 +59,6 @@ same_record names s e is =
 abbrev pub made : Name → Action → Event
 made t a = record { task = t; action = a }
 
--- its event, by its step's name
+-- the event of a stored step, by its step's name
 pub same_event : (names : List Name) (s : Stored) (e : Entry) (id : StepId) → IsStored names s e → id.task ≡ e.event.task → made id.task s.action ≡ e.event
 same_event names s e id is task = ap₂ made task is.action

@@ -41,7 +41,7 @@ zip_remove R (x ∷ xs) [] i z = absurd z
 zip_remove R (x ∷ xs) (y ∷ ys) zero z = z.1
 zip_remove R (x ∷ xs) (y ∷ ys) (suc i) z = (z.0, zip_remove R xs ys i z.1)
 
--- ---- names keep their numbers
+-- ---- names retain their ids
 
 kept_stored : (old new : List Name) (s : Stored) (e : Entry) → (more : List Name) → new ≡ old ++ more → IsStored old s e → IsStored new s e
 kept_stored old new s e more grown is =
@@ -76,7 +76,7 @@ any_body t b c (d ∷ D) acted = by (any_body t b c D) (is_of t d.event) refl
         ap (λ x. cond x d.to (line_of b t D)) h ∙ rest (λ none. acted (own_other t d.event (events_of D) h ∙ none))
         ∙ sym (ap (λ x. cond x d.to (line_of c t D)) h)
 
--- the tables tell the line of each task that has acted
+-- the tables say the line of each task that has acted
 tables_tell : (first : Cells) (root_line : ℕ) (D : List Departure) (tables : Tables) → Legal first (events_of D) → IsState first root_line D tables → (t : Name) → own t (events_of D) ≢ []
     → line_in tables t ≡ line_of (called_by root_line (spawn_of t (events_of D))).line t D
 tables_tell first root_line D tables legal state t acted =
@@ -122,7 +122,7 @@ module _ (names : List Name) (first : Cells) (root_line : ℕ) (body : Name → 
   made : Name → Action → ℕ → Entry → Entry
   made t a to e = record { event = record { task = t; action = a }; to = to; at = e.at; number = e.number }
 
-  -- what is stored says these entries
+  -- what is stored says these stored steps
   stored_say : (lines : Name → ℕ) (ss : List Stored) (es : List Entry) → AllZip (IsStored names) ss es → AreRecords first root_line es → AreLines lines body (map departure es) → entries_of names lines ss ≡ es
   stored_say lines [] [] z r told = refl
   stored_say lines [] (e ∷ es) z r told = absurd z
@@ -147,7 +147,7 @@ module _ (names : List Name) (first : Cells) (root_line : ℕ) (body : Name → 
       whole t u a b l m at bt n k e f g h i xs ys r =
           ap (λ x. put x a l at n ∷ xs) e ∙ ap (λ x. put u x l at n ∷ xs) f ∙ ap (λ x. put u b x at n ∷ xs) g ∙ ap (λ x. put u b m x n ∷ xs) h ∙ ap (λ x. put u b m bt x ∷ xs) i ∙ ap (λ x. put u b m bt k ∷ x) r
 
--- what a core stores says the entries that are sound with its tables
+-- what a core stores says the stored steps that are sound with its tables
 pub entries_are : (first : Cells) (root_line limit : ℕ) (tables : Tables) (ss : List Stored) (es : List Entry) → AllZip (IsStored (names_in tables)) ss es → IsSound first root_line limit (reverse es) tables → entries_in tables ss ≡ es
 entries_are first root_line limit tables ss es z sound =
     let D : List Departure = map departure (reverse es) in

@@ -1,4 +1,4 @@
--- An action that may be taken, its step, and the room for it.
+-- An action that may be executed, its step, and the capacity for it.
 use Rattle.std.proofs.Common.{◌≡◌, ◌<◌, ◌≤◌, ℕ, suc, List, [], ◌∷◌, ◌++◌, Bool, true, false, length, map, reverse, refl, sym, ap, ◌∙◌, subst, arith, Option, Some, None, IsTrue, unwrap_or, nat_lt, ◌||◌}
 use Rattle.std.specs.List.{list_any}
 use Rattle.std.proofs.lemmas.Bool.{and_parts}
@@ -114,7 +114,7 @@ module _ (first : Cells) (root_line limit : ℕ) (es : List Entry) (tables : Tab
       let legal : Legal s.cells (history s) = subst (λ (x : Seen). Legal x.cells (history x)) is sound.legal in
       subst (MayFollow s.cells (history s)) (sym e) (may_take s t a legal may')
 
-  -- the step number fits
+  -- the step ordinal fits
   pub few_steps : length (own t (history s)) ≤ 1000000
   few_steps =
       let here : length (own t (history s)) ≡ length (own t (events_of D)) = ap (λ (x : Seen). length (own t (history x))) (sym is) in
@@ -128,13 +128,13 @@ module _ (first : Cells) (root_line limit : ℕ) (es : List Entry) (tables : Tab
           at true h = omega arith
           at false h = omega arith
 
--- where a step fails, only room has changed
+-- where a step fails, only capacity has changed
 pub sound_same : (first : Cells) (root_line limit : ℕ) (es : List Entry) (tables : Tables) → IsSound first root_line limit (reverse es) tables → (es' : List Entry) (tables' : Tables) → es' ≡ es → AreSame tables tables' → IsSound first root_line limit (reverse es') tables'
 sound_same first root_line limit es tables sound es' tables' e same =
     subst (λ (x : List Entry). IsSound first root_line limit (reverse x) tables') (sym e)
     (record { legal = sound.legal; records = sound.records; state = state_same first root_line (map departure (reverse es)) tables tables' same sound.state; within = sound.within; bound = sound.bound })
 
--- ---- what was replaced stays, as it stands in an entry
+-- ---- what was replaced stays, as it is in a stored step
 
 packed_back : (first : Cells) (root_line : ℕ) (D : List Departure) (t : Name) (a : Action) (to : ℕ) → replaced_in (packed (record { task = t; action = a }) to (replaced_for first root_line D (record { task = t; action = a }))) ≡ replaced_for first root_line D (record { task = t; action = a })
 packed_back first root_line D t (Let r x) to = refl
@@ -173,7 +173,7 @@ module _ (first : Cells) (root_line limit : ℕ) (es : List Entry) (tables : Tab
   pub ahead : IsAhead tables v
   ahead = (first, root_line, front, behind_them)
 
-  -- the event behind the others
+  -- the event after the others
   pub record Appended (to : ℕ) (es' : List Entry) (new : Tables) : Type 0 where
     pub sound' : IsSound first root_line limit (reverse es') new
     pub now : seen first root_line limit (reverse es') ≡ grown_by v to s
@@ -194,7 +194,7 @@ module _ (first : Cells) (root_line limit : ℕ) (es : List Entry) (tables : Tab
         now = ap (λ x. seen first root_line limit x) all ∙ ap (grown_by v to) is;
       }
 
--- its undo would leave the others as they were
+-- the undo of a step that is executed would leave the others as they were
 pub takes_so : (s : Seen) (t : Name) (a : Action) (to : ℕ) (new : Seen) (v : Event) → v ≡ event_for s t a → MayFollow s.cells (history s) v → new ≡ grown_by v to s → Takes s t a to new v
 takes_so s t a to new v e may now = record {
   event = e;
@@ -204,7 +204,7 @@ takes_so s t a to new v e may now = record {
   lines = ap (λ (x : Seen). without_lines (step_of (history s) v) x.steps) now ∙ lines_kept [] s.steps (record { event = v; to = to }) (newest_unneeded (history s) v);
 }
 
--- the room for a copy of the event is that for the event
+-- the capacity for a copy of the event is that for the event
 pub some_reserved : (copy v : Event) (room : ℕ) (s : Tables) (p : Places) → copy ≡ v → 0 < room → HasRoomFor s v → HasRoomForPlaces (names_in s) p v → HasReserved (Some copy) room s p
 some_reserved copy v room s p e some has place = record {
   entry = λ w h. some;
@@ -212,7 +212,7 @@ some_reserved copy v room s p e some has place = record {
   places = λ w h. subst (λ (x : Event). HasRoomForPlaces (names_in s) p x) (sym e ∙ ap (λ o. unwrap_or o copy) h) place;
 }
 
--- what was reserved has its room yet
+-- what was reserved has its capacity yet
 pub reserved_kept : (o : Option Event) (room more : ℕ) (s now : Tables) (p new : Places) → room ≤ more → names_in now ≡ names_in s → ((v : Event) → HasRoomFor s v → HasRoomFor now v)
     → ((n : Option ℕ) (a : Action) → HasRoomAs p n a → HasRoomAs new n a) → HasReserved o room s p → HasReserved o more now new
 reserved_kept o room more s now p new grows names tables places h = record {
@@ -221,9 +221,9 @@ reserved_kept o room more s now p new grows names tables places h = record {
   places = λ v e. subst (λ ns. HasRoomAs new (event_number ns v) v.action) (sym names) (places (event_number (names_in s) v) v.action (h.places v e));
 }
 
--- ---- the places
+-- ---- the indexes
 
--- the entries stay
+-- the stored steps stay
 pub index_same : (es left : List Entry) (old new : Places) (was now : Tables) → left ≡ es → ((names : List Name) (events : List Event) → IsIndexOf names events old → IsIndexOf names events new)
     → KeepsNames was.waits.tasks now.waits.tasks → IsIndexOf (names_in was) (events_in es) old → IsIndexOf (names_in now) (events_in left) new
 index_same es left old new was now same kept keeps index =

@@ -1,4 +1,4 @@
--- A step is found among the entries of a core, and taken out of them where nothing needs it.
+-- A step is found among the stored steps of a core, and taken out of them where nothing needs it.
 use Rattle.std.proofs.Common.{◌≡◌, ◌<◌, ℕ, suc, List, [], ◌∷◌, ◌++◌, length, map, take, drop, reverse, get_or, refl, sym, ap, ap₂, ◌∙◌, subst, arith, append_assoc, Some, IsTrue}
 use Rattle.std.specs.List.{remove}
 use Rattle.std.proofs.Math.Seq.{split_at}
@@ -77,7 +77,7 @@ module _ (cells : Cells) (root_line limit : ℕ) where
       (subst (λ E. TakesBack (run E) i (run (later ++ front)) (gone i d)) (sym parts)
       (subst (λ j. TakesBack (run X) j (run (later ++ front)) (gone j d)) step t)))
 
--- ---- lists cut at the same place
+-- ---- lists cut at the same index
 
 cut_same : {A : Type 0} (l m f g : List A) (x y : A) → length f ≡ length g → l ++ x ∷ f ≡ m ++ y ∷ g → (l ≡ m) × (x ≡ y) × (f ≡ g)
 cut_same [] [] f g x y n e = (refl, cc, cc)
@@ -89,7 +89,7 @@ cut_same (a ∷ l) (b ∷ m) f g x y n e =
     let s = cut_same l m f g x y n r in
     (ap₂ (λ c k. c ∷ k) first s.0, s.1, s.2)
 
--- the entries, the newest first, cut at one of them
+-- the stored steps, the newest first, cut at one of them
 module _ (es : List Entry) (at : ℕ) (e : Entry) where
   abbrev later_of : List Entry
   later_of = reverse (drop (suc at) es)
@@ -110,7 +110,7 @@ module _ (es : List Entry) (at : ℕ) (e : Entry) where
   front_count : at < length es → length (map departure front_of) ≡ at
   front_count within = length-map front_of departure ∙ length-reverse (take at es) ∙ length-take-le at es (omega (arith, within))
 
--- ---- the place of a step
+-- ---- the index of a step
 
 module _ (first : Cells) (root_line limit : ℕ) (es : List Entry) (i : StepId) (at : ℕ) where
   is_place : (e : Entry) → at < length es → e ≡ get_or es at e → step_of (events_of (map departure (front_of es at e))) e.event ≡ i → IsPlaceOfStep (seen first root_line limit (reverse es)) i at
@@ -123,13 +123,13 @@ module _ (first : Cells) (root_line limit : ℕ) (es : List Entry) (i : StepId) 
     id = step;
   }
 
-  -- an entry there is the step
+  -- a stored step there is the step
   pub step_here : (e : Entry) → at < length es → e ≡ get_or es at e → IsPlaceOfStep (seen first root_line limit (reverse es)) i at → step_of (events_of (map departure (front_of es at e))) e.event ≡ i
   step_here e within here p =
       let c = cut_same p.later (map departure (later_of es at e)) p.front (map departure (front_of es at e)) p.step (departure e) (sym p.place ∙ sym (front_count es at e within)) (sym p.parts ∙ departures_cut es at e within here) in
       ap₂ (λ (f : List Departure) (d : Departure). step_of (events_of f) d.event) (sym c.2) (sym c.1) ∙ p.id
 
--- a place within the entries has a step
+-- an index within the stored steps has a step
 module _ (es : List Entry) (at : ℕ) (within : at < length es) where
   first_entry : (xs : List Entry) → 0 < length xs → Entry
   first_entry [] h = absurd (omega (arith, h))
@@ -147,7 +147,7 @@ module _ (es : List Entry) (at : ℕ) (within : at < length es) where
   pub some_step : (j : StepId) × (step_at es at ≡ Some j)
   some_step = (step_of (history_of (take at es)) entry_at.event, step_there)
 
--- the step that a scan finds has its place
+-- the step that a scan finds has its index
 pub place_told : (first : Cells) (root_line limit : ℕ) (es xs : List Entry) (i : StepId) (at : ℕ) (s : Seen) → seen first root_line limit (reverse es) ≡ s → xs ≡ es → at < length xs → step_at xs at ≡ Some i → IsPlaceOfStep s i at
 place_told first root_line limit es xs i at s view ex inner told =
     let within : at < length es = omega (arith, inner, ap length ex) in
@@ -233,13 +233,13 @@ module _ (first : Cells) (root_line limit : ℕ) (es : List Entry) (tables : Tab
       bound = sound.bound;
     }
 
--- the place is one of the entries
+-- the index is one of the stored steps
 pub place_within : (first : Cells) (root_line limit : ℕ) (es : List Entry) (i : StepId) (at : ℕ) (s : Seen) → seen first root_line limit (reverse es) ≡ s → IsPlaceOfStep s i at → at < length es
 place_within first root_line limit es i at s view place =
     let p = subst (λ z. IsPlaceOfStep z i at) (sym view) place in
     omega (arith, p.place, ap length p.parts, length-append p.later (p.step ∷ p.front), length-map (reverse es) departure, length-reverse es)
 
--- a step that is needed stands, and what needs it has a name
+-- a step that is needed is there, and what needs it has a name
 pub needed : (first : Cells) (root_line limit : ℕ) (es xs ys : List Entry) (i : StepId) (at by : ℕ) (s : Seen) → seen first root_line limit (reverse es) ≡ s → Legal first (history_of es) → xs ≡ es → ys ≡ es
     → IsTrue (stands i (history_of xs)) → step_at xs at ≡ Some i → ((j : StepId) → AreLegal ys → step_at ys at ≡ Some j → step_at ys by ≡ first_needer j (history_of ys)) → by < length ys → ((j : StepId) → step_at ys by ≡ Some j → IsLongName j.task)
     → IsTrue (stands i (history s)) × ((j : StepId) × (first_needer i (history s) ≡ Some j) × IsLongName j.task)

@@ -1,4 +1,4 @@
--- What is stored is taken back as the entries are that it says.
+-- What is stored is taken back as the stored steps are that it says.
 use Rattle.std.proofs.Common.{◌≡◌, ◌≢◌, ◌<◌, ◌≤◌, ◌+◌, ◌-◌, ℕ, zero, suc, List, [], ◌∷◌, ◌++◌, true, Option, Some, IsSome, length, take, drop, set, get_or, map, reverse, refl, sym, ap, ap₂, ◌∙◌, subst, arith}
 use Rattle.std.specs.List.{AllZip, AllByRecursion}
 use Rattle.std.specs.Option.{option_to_list}
@@ -182,10 +182,10 @@ module _ (e : StepId) (old : List Entry) (before : Tables) (ss now : List Stored
               let y = some_entry xs at l in
               ap (left_from at (at ∷ done)) (drop_more xs at y.0 l) ∙ left_gone at (at ∷ done) (get_or xs at y.0) (drop (at + 1) xs) itself
 
--- ---- the loop over the places
+-- ---- the loop over the indexes
 
 module _ (e : StepId) (old : List Entry) (before : Tables) (ss now : List Stored) (tables : Tables) (places : List ℕ) (next : ℕ) (steps : List StepId) (removed : List Removed) (count : ℕ) (u : UnwindsAt e old before ss now tables (take next places) (drop next places) steps removed count) where
-  -- the next place to go
+  -- the next index to go
   pub next_state : (at : ℕ) → 0 < next → next ≤ length places → at ≡ get_or places (next - 1) at → UnwindsAt e old before ss now tables (take (next - 1) places ++ at ∷ []) (drop next places) steps removed count
   next_state at some within here =
       let same : next ≡ next - 1 + 1 = omega (arith, some) in

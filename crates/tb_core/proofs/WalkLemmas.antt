@@ -31,7 +31,7 @@ abbrev count_behind : Option Name → List Name → ℕ
 count_behind after [] = 0
 count_behind after (u ∷ us) = cond (is_behind after u) (suc (count_behind after us)) (count_behind after us)
 
--- the tasks behind a name
+-- the tasks after a name
 abbrev pub tasks_behind : Option Name → History → ℕ
 tasks_behind after H = count_behind after (spawned_names H)
 
@@ -48,7 +48,7 @@ less_only Less h = refl
 less_only Equal h = absurd (false≢true h)
 less_only Greater h = absurd (false≢true h)
 
--- what is behind a later name is behind the earlier
+-- what is after a later name is after the earlier
 still_behind : (after : Option Name) (t u : Name) → IsBehind after t → is_less (name_cmp t u) ≡ true → is_behind after u ≡ true
 still_behind None t u b h = refl
 still_behind (Some a) t u b h = ap is_less (name_cmp_total.trans a t u b (less_only (name_cmp t u) h))
@@ -123,7 +123,7 @@ fewer H after t u = fewer_among after t (spawned_names H) u.behind (among H t (a
 
 -- ---- the tasks that the walk has found
 
--- those found are all in front of what comes after, and no other task with the property is
+-- the tasks found are all in front of what comes after, and no other task with the property is
 pub record Gathered (P : Name → Type 0) (after : Option Name) (ts : List Name) : Type 0 where
   pub rise : Rises ts
   pub each : AllByRecursion P ts
@@ -154,7 +154,7 @@ later_still None t u b h = tt
 later_still (Some a) t u b h = name_cmp_total.trans a t u b h
 
 module _ (H : History) (P : Name → Type 0) (unended : (u : Name) → P u → is_unended H u ≡ true) (after : Option Name) (ts : List Name) (g : Gathered P after ts) where
-  -- where a task with the property stands that isn't found yet
+  -- where a task with the property is there that isn't found yet
   from_next : (t u : Name) → IsLeastName (IsUnendedBehind H after) (Some t) → P u → IsBehind after u → (u ≡ t) ⊎ (name_cmp t u ≡ Less)
   from_next t u l p b =
       let m = l.least u (record { unended = unended u p; behind = b }) in

@@ -10,7 +10,7 @@ use Rattle.tb_model.specs.Legal.{Cells, Legal, first_number, spawn_count}
 use Rattle.tb_model.specs.Lines.{Departure, events_of}
 use Rattle.tb_undo.specs.State.{Seen as Tables, IsState}
 
--- the action, with the number that a load reads and the number of a spawned child
+-- the action, with the value that a load reads and the ordinal of a spawned child
 abbrev pub completed : Cells → History → Name → Action → Action
 completed cells H t (Load r c x) = Load r c (last (first_number cells c) c H)
 completed cells H t (Spawn s) = Spawn (record s { child = child t (suc (spawn_count (own t H))) })

@@ -13,17 +13,17 @@ use Rattle.tb_core.specs.Refusals.{told_by}
 abbrev pub config_with : Name → Standing → Config
 config_with t s = record { task = t; steps = s.steps; at = s.at; regs = s.regs }
 
--- it tells the situation, or that there was no memory for it
+-- the refusal says the situation, or that there was no memory for it
 abbrev pub IsStaleAnswer : Config → StepRefusal → Type 0
 IsStaleAnswer now (Stale c) = c ≡ now
 IsStaleAnswer now Memory = ⊤
 IsStaleAnswer now _ = ⊥
 
--- a copy of the name may be refused: it has more than three numbers
+-- a copy of the name may be refused: it has more than three ordinals
 abbrev pub IsLongName : Name → Type 0
 IsLongName t = 3 < length t
 
--- what keeps a task has such a name
+-- what blocks a task has such a name
 abbrev pub IsLong : Hindrance → Type 0
 IsLong (Undeferred u) = IsLongName u
 IsLong (Waiting u) = IsLongName u
@@ -31,7 +31,8 @@ IsLong (Excluded u) = IsLongName u
 IsLong (Children u) = IsLongName u
 IsLong (Group u) = IsLongName u
 
--- it names what keeps the task, or tells that there was no memory for the name, which is long
+-- the refusal names what blocks the task, or says that there was no memory for the name, which is
+-- long
 abbrev pub IsNamed : Hindrance → StepRefusal → Type 0
 IsNamed h Memory = IsLong h
 IsNamed h r = told_by r ≡ Some (By h)

@@ -28,7 +28,8 @@ may_wait has_items _ = false
 abbrev pub may_wait_for : Bool → Action → Name → Name → Bool
 may_wait_for has_items a t u = may_wait has_items a || (is_child t u || same_name t u)
 
--- no entry from the one place on, in front of the other, directly needs the one at the place `at`
+-- no stored step from the one index on, in front of the other, directly needs the one at the index
+-- `at`
 abbrev pub NoneNeeds : List Entry → ℕ → ℕ → ℕ → Type 0
 NoneNeeds entries at from to =
     (k : ℕ) (v u : Entry) → from ≤ k → k < to → v ≡ get_or entries k v → u ≡ get_or entries at u → IsFalse (needs (history_of (take k entries)) v.event u.event)

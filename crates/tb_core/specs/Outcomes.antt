@@ -50,13 +50,14 @@ pub record Fits (s : Seen) (p : Plan) : Type 0 where
   pub starts : p.config ≡ config_of s p.config.task → IsTrue (is_start p.action) ↔ (own p.config.task (history s) ≡ [])
   pub closes : p.config ≡ config_of s p.config.task → p.action ≡ Close → groups (own p.config.task (history s)) ≢ []
 
--- the task is there, isn't over, and stands where the plan takes it to stand
+-- the task is there, isn't over, and is where the plan takes it to be
 pub record IsCurrent (s : Seen) (p : Plan) : Type 0 where
   pub spawned : IsTrue (is_spawned (history s) p.config.task)
   pub going : IsFalse (has_ended s p.config.task)
   pub here : p.config ≡ config_of s p.config.task
 
--- the event stands after the others, which it may follow, and its undo leaves them as they were, each with its line
+-- the event is after the others, which it may follow, and its undo leaves them as they were, each
+-- with its line
 pub record Steps (s : Seen) (p : Plan) (new : Seen) (i : StepId) : Type 0 where
   pub current : IsCurrent s p
   pub room : length s.steps < s.limit
@@ -66,20 +67,21 @@ pub record Steps (s : Seen) (p : Plan) (new : Seen) (i : StepId) : Type 0 where
   pub back : without i (history new) ≡ history s
   pub lines : without_lines i new.steps ≡ s.steps
 
--- what keeps the plan's task from its action, where the plan is of its situation
+-- what blocks the plan's task's action, where the plan is of its situation
 abbrev pub hindrance_of : Seen → Plan → Option Hindrance
 hindrance_of s p = in_the_way (history s) p.config.task p.action
 
--- nothing keeps the task from its action, and the history has a place
+-- nothing blocks the task's action, and the history has a slot
 pub record IsOpen (s : Seen) (p : Plan) : Type 0 where
   pub current : IsCurrent s p
   pub clear : hindrance_of s p ≡ None
   pub room : length s.steps < s.limit
 
--- ---- an action of a task that stands at the line where it was evaluated
+-- ---- an action of a task that is at the line where it was evaluated
 
--- nothing keeps the task, which is there and isn't over, from the action, and the history has a place; it is for this many
--- cells, it starts exactly a pending task, and it closes a group only where one is open
+-- nothing blocks the action of the task, which is there and isn't over, and the history has a slot;
+-- it is for this many cells, it starts exactly a pending task, and it closes a group only where one
+-- is open
 pub record MayTake (s : Seen) (t : Name) (a : Action) : Type 0 where
   pub spawned : IsTrue (is_spawned (history s) t)
   pub going : IsFalse (has_ended s t)
@@ -89,12 +91,12 @@ pub record MayTake (s : Seen) (t : Name) (a : Action) : Type 0 where
   pub clear : in_the_way (history s) t a ≡ None
   pub room : length s.steps < s.limit
 
--- with the event behind the others, which leaves its task at this line
+-- with the event after the others, which leaves its task at this line
 abbrev pub grown_by : Event → ℕ → Seen → Seen
 grown_by v to s = record s { steps = record { event = v; to = to } ∷ s.steps }
 
--- the event of the action stands after the others, which it may follow, and leaves its task at this line; its undo leaves them
--- as they were, each with its line
+-- the event of the action is after the others, which it may follow, and leaves its task at this
+-- line; its undo leaves them as they were, each with its line
 pub record Takes (s : Seen) (t : Name) (a : Action) (to : ℕ) (new : Seen) (v : Event) : Type 0 where
   pub event : v ≡ event_for s t a
   pub may : MayFollow s.cells (history s) v
@@ -102,49 +104,51 @@ pub record Takes (s : Seen) (t : Name) (a : Action) (to : ℕ) (new : Seen) (v :
   pub back : without (step_of (history s) v) (history new) ≡ history s
   pub lines : without_lines (step_of (history s) v) new.steps ≡ s.steps
 
--- the refusal names what keeps the task from the action, or tells that there was no memory for the name
+-- the refusal names what blocks the task's action, or says that there was no memory for the name
 pub record IsKeptBy (s : Seen) (t : Name) (a : Action) (e : StepRefusal) : Type 0 where
   pub hindrance : Hindrance
   pub found : in_the_way (history s) t a ≡ Some hindrance
   pub named : IsNamed hindrance e
 
--- ---- why a plan isn't taken
+-- ---- why a plan isn't executed
 
--- the task is there and going, but stands elsewhere than the plan takes it to stand, now so
+-- the task is there and going, but is at another line than the plan takes it to be, now so
 pub record IsStale (s : Seen) (p : Plan) (now : Config) : Type 0 where
   pub spawned : IsTrue (is_spawned (history s) p.config.task)
   pub going : IsFalse (has_ended s p.config.task)
   pub now_is : now ≡ config_of s p.config.task
   pub elsewhere : p.config ≢ now
 
--- the task is kept from its action by this
+-- this blocks the task's action
 pub record IsHindered (s : Seen) (p : Plan) (h : Hindrance) : Type 0 where
   pub current : IsCurrent s p
   pub hindrance : hindrance_of s p ≡ Some h
 
--- memory is wanted for what a refusal would tell: where the task stands now, or a name of more than three numbers
+-- memory is wanted for what a refusal would say: where the task is now, or a name of more than
+-- three ordinals
 abbrev pub WantsToTell : Seen → Plan → Type 0
 WantsToTell s p = ((now : Config) × IsStale s p now) ⊎ ((h : Hindrance) × IsHindered s p h × IsLong h)
 
--- memory is wanted for the step, or for what a refusal would tell
+-- memory is wanted for the step, or for what a refusal would say
 abbrev pub WantsMemory : Seen → Plan → Type 0
 WantsMemory s p = IsOpen s p ⊎ WantsToTell s p
 
--- what is so where a refusal tells this of the plan's task
+-- what is so where a refusal says this of the plan's task
 abbrev pub IsTold : Seen → Plan → Option Refusal → Type 0
 IsTold s p (Some TheTaskIsMissing) = IsFalse (is_spawned (history s) p.config.task)
 IsTold s p (Some TheTaskIsOver) = IsTrue (is_spawned (history s) p.config.task) × IsTrue (has_ended s p.config.task)
 IsTold s p (Some (By h)) = IsHindered s p h
 IsTold s p None = ⊥
 
--- when a plan isn't taken; want of memory comes last
+-- when a plan isn't executed; want of memory comes last
 abbrev pub Refuses : Seen → Plan → StepRefusal → Type 0
 Refuses s p (Stale now) = IsStale s p now
 Refuses s p Full = IsCurrent s p × (hindrance_of s p ≡ None) × (s.limit ≤ length s.steps)
 Refuses s p Memory = WantsMemory s p
 Refuses s p r = IsTold s p (told_by r)
 
--- why a plan isn't taken, where memory may be wanted for what the refusal names, but not for the step
+-- why a plan isn't executed, where memory may be wanted for what the refusal names, but not for the
+-- step
 abbrev pub IsKept : Seen → Plan → StepRefusal → Type 0
 IsKept s p Memory = WantsToTell s p
 IsKept s p r = Refuses s p r
@@ -154,12 +158,12 @@ abbrev pub Stepped : Seen → Plan → Seen → Result StepId StepRefusal → Ty
 Stepped s p new (Ok i) = Steps s p new i
 Stepped s p new (Err e) = (new ≡ s) × Refuses s p e
 
--- the step stands, and nothing needs it
+-- the step is there, and nothing needs it
 pub record IsFree (s : Seen) (i : StepId) : Type 0 where
   pub stands : IsTrue (stands i (history s))
   pub unneeded : first_needer i (history s) ≡ None
 
--- so many steps stand in front of the step
+-- so many steps are before the step
 pub record IsPlaceOfStep (s : Seen) (i : StepId) (at : ℕ) : Type 0 where
   pub later : List Departure
   pub step : Departure
@@ -168,8 +172,8 @@ pub record IsPlaceOfStep (s : Seen) (i : StepId) (at : ℕ) : Type 0 where
   pub place : at ≡ length front
   pub id : step_of (events_of front) step.event ≡ i
 
--- the step is gone, and nothing else; it may be taken again, and then all is as it was, each task's line too, and the
--- histories are equivalent
+-- the step is gone, and nothing else; it may be executed again, and then all is as it was, each
+-- task's line too, and the histories are equivalent
 pub record TakesBack (s : Seen) (i : StepId) (new : Seen) (removed : Removed) : Type 0 where
   pub free : IsFree s i
   pub cells : new.cells ≡ s.cells

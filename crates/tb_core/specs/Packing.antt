@@ -1,4 +1,4 @@
--- What a step replaced, as it stands in its entry.
+-- What a step replaced, as it is in its stored step.
 use Rattle.std.specs.Prelude.{ℕ, ℤ, Option, Some, None, unwrap_or}
 use Rattle.tb_model.specs.declared.action.Action.{Action}
 use Rattle.tb_model.specs.declared.action.Action.TheVariants.{Let, Load, Store}
@@ -7,7 +7,7 @@ use Rattle.tb_store.specs.declared.replaced.Replaced.{Replaced}
 use Rattle.tb_undo.specs.Tasks.{register_by}
 use Rattle.tb_steps.specs.Entries.{Entry}
 
--- the number, where the action is one that replaces a number
+-- the value, where the action is one that replaces a value
 abbrev pub number_in : Action → ℤ → Option ℤ
 number_in (Let r x) n = Some n
 number_in (Load r c x) n = Some n

@@ -1,4 +1,4 @@
--- The refusals by their numbers, and by what the definitions say of a task that is kept from its step.
+-- The refusals by their codes, and by what the definitions say of a task whose step is blocked.
 use Rattle.std.specs.Prelude.{ℕ, Option, Some, None}
 use Rattle.tb_model.specs.Hindrances as definition
 use Rattle.tb_model.specs.Hindrances.{Refusal, By}
@@ -25,7 +25,8 @@ undo_number NoSuchStep = 1
 undo_number (Needed by) = 2
 undo_number JournalFull = 3
 
--- what a step's refusal says of its task, where it says more than that memory or the journal has no room
+-- what a step's refusal says of its task, where it says more than that memory or the journal has no
+-- capacity
 abbrev pub told_by : StepRefusal → Option Refusal
 told_by NoSuchTask = Some definition.NoSuchTask
 told_by Ended = Some definition.Ended

@@ -10,7 +10,7 @@ use Rattle.tb_core.specs.Seen.{Seen, history}
 
 -- ---- the step e and all that need it, the newest first
 
--- by their places: the place of an event is how many stand in front of it
+-- by their indexes: the index of an event is how many are before it
 abbrev pub removed_places : StepId → History → List ℕ
 removed_places e [] = []
 removed_places e (v ∷ H) = prepend_if (is_removed e H v) (length H) (removed_places e H)
@@ -33,7 +33,8 @@ pub record IsOfHistory (H : History) (r : Rollback) : Type 0 where
   pub steps : r.steps.items ≡ reverse (removed_steps r.step H)
   pub count : r.count ≡ length H
 
--- the step and all that need it are gone, and nothing else; they are told in the order of the history
+-- the step and all that need it are gone, and nothing else; they are returned in the order of the
+-- history
 pub record RollsBack (s : Seen) (e : StepId) (new : Seen) (answer : List Removed) : Type 0 where
   pub cells : new.cells ≡ s.cells
   pub root_line : new.root_line ≡ s.root_line

@@ -1,4 +1,4 @@
--- Where a task stands behind a history that keeps its lines.
+-- Where a task is after a history that retains its lines.
 use Rattle.tb_model.specs.Names.{Name}
 use Rattle.tb_plan.specs.declared.config.Config.{Config}
 use Rattle.tb_undo.specs.State.{known_task}

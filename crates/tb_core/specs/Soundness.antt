@@ -14,16 +14,17 @@ use Rattle.tb_steps.specs.Entries.{Entry, departure}
 use Rattle.tb_core.specs.Packing.{replaced_in}
 use Rattle.tb_core.specs.Seen.{Seen}
 
--- what a core shows of these entries, the newest first
+-- what a core shows of these stored steps, the newest first
 abbrev pub seen : Cells → (root_line limit : ℕ) → List Entry → Seen
 seen first root_line limit entries = record { cells = first; root_line = root_line; limit = limit; steps = map departure entries }
 
--- each record says what its event replaced, by what stands in front of it
+-- each record says what its event replaced, by what is before it
 abbrev pub AreRecords : Cells → ℕ → List Entry → Type 0
 AreRecords first root_line [] = ⊤
 AreRecords first root_line (e ∷ entries) = AreRecords first root_line entries × (replaced_in e ≡ replaced_for first root_line (map departure entries) e.event)
 
--- the entries, the newest first: their history is legal, their records are right, and the tables are its state
+-- the stored steps, the newest first: their history is legal, their records are right, and the
+-- tables are its state
 pub record IsSound (first : Cells) (root_line limit : ℕ) (entries : List Entry) (tables : Tables) : Type 0 where
   pub legal : Legal first (events_of (map departure entries))
   pub records : AreRecords first root_line entries
@@ -31,11 +32,11 @@ pub record IsSound (first : Cells) (root_line limit : ℕ) (entries : List Entry
   pub within : length entries ≤ limit
   pub bound : limit ≤ 1000000
 
--- the names of all tasks that were ever generated, each at its task's number
+-- the names of all tasks that were ever generated, each at its task's id
 abbrev pub names_in : Tables → List Name
 names_in tables = keys_of tables.waits.tasks
 
--- the room for the event that is reserved is there
+-- the capacity for the event that is reserved is there
 pub record HasReserved (reserved : Option Event) (room : ℕ) (held : Tables) (stand : Places) : Type 0 where
   pub entry : (v : Event) → reserved ≡ Some v → 0 < room
   pub tables : (v : Event) → reserved ≡ Some v → HasRoomFor held v

@@ -1,4 +1,5 @@
--- How what is stored changes where steps are taken back: it says the entries that are gone through. No public clause cites this module.
+-- How what is stored changes where steps are taken back: it says the stored steps that are gone
+-- through. No public clause cites this module.
 use Rattle.std.specs.Prelude.{◌≡◌, ◌≤◌, ◌<◌, ◌++◌, ℕ, List, false, length, take, drop, reverse}
 use Rattle.tb_model.specs.declared.step_id.StepId.{StepId}
 use Rattle.tb_places.specs.Renumbering.{goes_at, left_from}
@@ -8,8 +9,8 @@ use Rattle.tb_core.specs.declared.removed.Removed.{Removed}
 use Rattle.tb_steps.specs.Entries.{Entry}
 use Rattle.tb_core.specs.Unwinding.{StayTied, Unwinds, Unwound}
 
--- so many entries are as they were; of those behind them the ones at the done places are hollow, the kept ones stay, and these
--- places and steps are still to go
+-- so many stored steps are as they were; of those after them the ones at the done indexes are
+-- hollow, the retained ones stay, and these indexes and steps are still to go
 pub record UnwindsAt (e : StepId) (old : List Entry) (before : Tables) (ss now : List Stored) (tables : Tables) (places done : List ℕ) (steps : List StepId) (removed : List Removed) (count : ℕ) : Type 0 where
   pub within : count ≤ length ss
   pub len : length now ≡ length ss

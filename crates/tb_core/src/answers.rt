@@ -11,7 +11,7 @@ use tb_model::TaskName;
 use tb_plan::Config;
 use tb_undo::{Obstacle, Standing};
 
-/// The configuration of a task by its standing.
+/// The configuration of a task by its situation.
 pub fn config(task: TaskName, standing: &Standing<'_>) -> Config
     ensures { result ≡ config_with task standing.now }
 {
@@ -24,7 +24,7 @@ pub fn config(task: TaskName, standing: &Standing<'_>) -> Config
     }
 }
 
-/// Whether the configuration is that of its task with this standing.
+/// Whether the configuration is that of its task with this situation.
 pub fn stands_so(config: &Config, standing: &Standing<'_>) -> bool
     ensures { IsTrue result ↔ (config.now ≡ config_with config.now.task standing.now) }
 {
@@ -39,8 +39,8 @@ fn are_same(a: &[i64; 16], b: &[i64; 16]) -> bool
     a == b
 }
 
-/// The refusal of a plan that isn't for this standing, in which the task is now. For want of memory
-/// that is refused instead.
+/// The refusal of a plan that isn't for this situation, in which the task is now. For want of
+/// memory that is refused instead.
 pub fn stale(alloc: Global, task: &TaskName, standing: &Standing<'_>) -> StepRefusal
     ensures { IsStaleAnswer (config_with task.now standing.now) result }
 {
@@ -50,7 +50,7 @@ pub fn stale(alloc: Global, task: &TaskName, standing: &Standing<'_>) -> StepRef
     }
 }
 
-/// Where a task stands, on the heap.
+/// Where a task is, on the heap.
 fn elsewhere(
     alloc: Global,
     task: &TaskName,
@@ -61,7 +61,8 @@ fn elsewhere(
     Elsewhere::new(alloc, config(task.clone()?, standing))
 }
 
-/// What keeps the task from its action, by name. Memory is wanted at most for a name of more than three numbers.
+/// What blocks the task's action, by name. Memory is wanted at most for a name of more than three
+/// ordinals.
 pub fn named(task: &TaskName, obstacle: Obstacle<'_>) -> StepRefusal
     requires { IsNumbered obstacle }
     ensures { IsNamed (hindrance_by task.now obstacle.entry) result }
@@ -90,7 +91,7 @@ pub fn named(task: &TaskName, obstacle: Obstacle<'_>) -> StepRefusal
     }
 }
 
-/// The child of the task's parent with this number.
+/// The child of the task's parent with this ordinal.
 fn sibling_of(task: &TaskName, number: u32) -> Result<TaskName, AllocError>
     requires { 0 < number }
     ensures name { IfOk result (λ name. name ≡ sibling task.now number) }

@@ -1,4 +1,4 @@
-//! Where a task stands, as a refusal says it.
+//! Where a task is, as a refusal says it.
 
 ghost use Rattle.std.specs.Prelude.{◌≡◌, IfOk};
 
@@ -7,10 +7,10 @@ use std::fmt;
 use std::marker::Model;
 use tb_plan::Config;
 
-/// Where a task stands that a plan takes to be elsewhere. Contracts see the configuration.
+/// Where a task is that a plan takes to be at another line. Contracts see the configuration.
 ///
-/// It takes one word, so that a refusal, for which each step has room on its way, has no room for
-/// sixteen registers.
+/// It takes one word, so that a refusal, for which each step has capacity on its way, has no
+/// capacity for sixteen registers.
 #[derive(Drop)]
 pub struct Elsewhere {
     config: Box<Config>,

@@ -7,22 +7,24 @@ use std::mem::size_of;
 use tb_model::Action;
 use tb_store::Replaced;
 
-/// A step, and what it replaced, in few bytes. Its task is given by its place among the names of the
-/// tables, which a name keeps for good. Whether there is a number, and of which register, the action says.
+/// A step, and what it replaced, in few bytes. Its task is given by its index among the names of
+/// the tables, which a name retains for good. Whether there is a value, and of which register, the
+/// action says.
 #[derive(Drop)]
 pub struct Entry {
     pub(crate) action: Action,
-    /// The number that it replaced, of a cell or of a register, and 0 where it replaced none.
+    /// The value that it replaced, of a cell or of a register, and 0 where it replaced none.
     pub(crate) number: i64,
     pub(crate) task: u32,
-    /// The line at which its task stood. That to which the step led is the line of the task's next one.
+    /// The line at which its task was. That to which the step led is the line of the task's next
+    /// one.
     pub(crate) at: u32,
 }
 
 const _: () = prove!(size_of::<Entry>() == 32);
 
 impl Entry {
-    /// The entry of an action of the task at this place, which replaces so much.
+    /// The stored step of an action of the task at this index, which replaces so much.
     #[inline(always)]
     pub(crate) fn new(task: u32, action: Action, replaced: Replaced) -> Entry
         ensures { result ≡ stored task action replaced }
@@ -35,7 +37,7 @@ impl Entry {
         }
     }
 
-    /// What stands in the place of an entry that was taken out.
+    /// What is at the index of a stored step that was taken out.
     pub(crate) fn hollow() -> Entry {
         Entry {
             action: Action::End,

@@ -1,4 +1,4 @@
-//! What a step fills in: the number that a load reads, and the name of a child.
+//! What a step fills in: the value that a load reads, and the name of a child.
 
 ghost use Rattle.std.specs.Prelude.{◌≡◌, ◌<◌, ◌↔◌, ℕ, List, IfOk, IsOk, IsTrue, IsFalse, Some, None, length};
 ghost use Rattle.tb_model.specs.declared.event.Event.{Event as AnEvent};
@@ -20,7 +20,7 @@ pub fn action_of(event: Event) -> Action
     action
 }
 
-/// No event is kept any longer.
+/// No event is retained any longer.
 #[inline(always)]
 pub fn forget(place: &mut Option<Event>)
     ensures { place.new ≡ None }

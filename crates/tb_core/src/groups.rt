@@ -1,4 +1,4 @@
-//! Which groups of a task are open, and who belongs to them, found by scans of the entries.
+//! Which groups of a task are open, and who belongs to them, found by scans of the stored steps.
 
 ghost use Rattle.std.specs.Prelude.{◌≡◌, ◌↔◌, ◌≤◌, ◌∷◌, IfOk, IsTrue, List, length};
 ghost use Rattle.tb_model.specs.Facts.{own};

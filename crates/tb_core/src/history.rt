@@ -1,4 +1,4 @@
-//! A history that is lent: its steps by their places.
+//! A history that is lent: its steps by their indexes.
 
 ghost use Rattle.std.specs.Prelude.{◌≡◌, ◌<◌, ◌≤◌, [], ◌∷◌, suc, IfSome, IfNone, IsTrue, length, take, get_or};
 ghost use Rattle.tb_model.specs.Facts.{is_of, is_print, is_spawned, items_of, own, touches};
@@ -15,8 +15,9 @@ use tb_model::{Action, Item, TaskName};
 use tb_places::{Places, last_place, next_place};
 use tb_undo::Tables;
 
-/// The steps of a core that stand, from the oldest on: all of them, or those in front of a place.
-/// Contracts see the list of these steps, each with the lines between which it moved its task.
+/// The steps of a core that are there, from the oldest on: all of them, or those in front of an
+/// index. Contracts see the list of these steps, each with the lines between which it moved its
+/// task.
 #[derive(Drop)]
 pub struct History<'a> {
     // all that the core has
@@ -46,7 +47,7 @@ impl<'a> Model for History<'a> {
 }
 
 impl<'a> History<'a> {
-    /// All that is stored in these entries, which are those of the tables.
+    /// All that is stored in these stored steps, which are those of the tables.
     #[inline(always)]
     pub(crate) fn of(entries: &'a [Entry], tables: &'a Tables, places: &'a Places) -> History<'a>
         requires stored { AllZip (IsStored (names_in tables.now)) entries.now (entries_in tables.now entries.now) }
@@ -65,7 +66,7 @@ impl<'a> History<'a> {
     pub fn is_legal(&self)
         ensures { AreLegal self.now }
     {
-        // for the proof: what the type keeps is known where a field is read
+        // for the proof: what the type retains is known where a field is read
         let _count = self.count;
     }
 
@@ -89,7 +90,7 @@ impl<'a> History<'a> {
         self.count
     }
 
-    /// The steps in front of this place.
+    /// The steps in front of this index.
     #[inline(always)]
     pub fn front(&self, at: usize) -> History<'a>
         requires { at ≤ length self.now }
@@ -103,7 +104,7 @@ impl<'a> History<'a> {
         }
     }
 
-    /// The task that took the step at this place.
+    /// The task that executed the step at this index.
     #[inline(always)]
     pub fn task(&self, at: usize) -> &'a TaskName
         requires { at < length self.now }
@@ -112,7 +113,7 @@ impl<'a> History<'a> {
         name_in(self.tables, entry_in(self.entries, at))
     }
 
-    /// What the step at this place did.
+    /// What the step at this index did.
     #[inline(always)]
     pub fn action(&self, at: usize) -> &'a Action
         requires { at < length self.now }
@@ -129,7 +130,7 @@ impl<'a> History<'a> {
         self.tables.items(task)
     }
 
-    /// The first place from this one on at which the task stepped, else how many steps there are.
+    /// The first index from this one on at which the task stepped, else how many steps there are.
     pub fn next_of(&self, task: &TaskName, from: usize) -> usize
         requires { from ≤ length self.now }
         ensures from { from ≤ result }
@@ -140,7 +141,8 @@ impl<'a> History<'a> {
         next_place(own, from, self.len())
     }
 
-    /// The first place from this one on at which a step loaded from the cell or stored to it, else how many steps there are.
+    /// The first index from this one on at which a step loaded from the cell or stored to it, else
+    /// how many steps there are.
     pub fn next_touch(&self, cell: u32, from: usize) -> usize
         requires { from ≤ length self.now }
         ensures from { from ≤ result }
@@ -150,7 +152,7 @@ impl<'a> History<'a> {
         next_place(self.places.touches(cell), from, self.len())
     }
 
-    /// The first place from this one on at which a step printed, else how many steps there are.
+    /// The first index from this one on at which a step printed, else how many steps there are.
     pub fn next_print(&self, from: usize) -> usize
         requires { from ≤ length self.now }
         ensures from { from ≤ result }
@@ -160,7 +162,7 @@ impl<'a> History<'a> {
         next_place(self.places.prints(), from, self.len())
     }
 
-    /// The place of the step that the same task took last in front of this place.
+    /// The index of the step that the same task took last in front of this index.
     pub fn previous(&self, at: usize) -> Option<usize>
         requires { at < length self.now }
         ensures some { (e : AnEntry) → e ≡ get_or self.now at e → IfSome result (IsLast (is_of e.event.task) self.now at) }
@@ -173,7 +175,7 @@ impl<'a> History<'a> {
         last_place(own, at)
     }
 
-    /// How many steps the task of the step at this place took in front of it.
+    /// How many steps the task of the step at this index took in front of it.
     pub fn rank(&self, at: usize) -> Option<usize>
         requires { at < length self.now }
         ensures { (e : AnEntry) → e ≡ get_or self.now at e →
@@ -189,7 +191,7 @@ impl<'a> History<'a> {
         }
     }
 
-    /// The line at which its task stood before the step at this place.
+    /// The line at which its task was before the step at this index.
     pub fn line(&self, at: usize) -> u32
         requires { at < length self.now }
         ensures { (e : AnEntry) → e ≡ get_or self.now at e → result ≡ e.at }
@@ -211,7 +213,7 @@ impl<'a> History<'a> {
         Some((self.front(at), self.task(at), self.action(at)))
     }
 
-    /// Whether the task took the step at this place.
+    /// Whether the task executed the step at this index.
     #[inline(always)]
     pub fn is_of(&self, at: usize, task: &TaskName) -> bool
         requires { at < length self.now }
@@ -220,7 +222,7 @@ impl<'a> History<'a> {
         *self.task(at) == *task
     }
 
-    /// Whether one task took the steps at both places.
+    /// Whether one task executed the steps at both indexes.
     #[inline(always)]
     pub fn are_of_one(&self, at: usize, other: usize) -> bool
         requires at { at < length self.now }
@@ -240,7 +242,7 @@ fn entry_in(entries: &[Entry], at: usize) -> &Entry
     &entries[at]
 }
 
-/// The name of the entry's task.
+/// The name of the stored step's task.
 #[inline(always)]
 fn name_in<'a>(tables: &'a Tables, entry: &Entry) -> &'a TaskName
     requires { (e : AnEntry) × IsStored (names_in tables.now) entry.now e }

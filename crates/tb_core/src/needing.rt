@@ -1,5 +1,6 @@
-//! Which event of the entries needs which. What tasks named at their spawns is known to the tables, and where a step
-//! that is no end may be needed to the indexes; all else is found by scans. No memory is taken.
+//! Which event of the stored steps needs which. What tasks named at their spawns is known to the
+//! tables, and where a step that is no end may be needed to the indexes; all else is found by
+//! scans. No memory is taken.
 
 ghost use Rattle.std.specs.Prelude.{◌≡◌, ◌<◌, ◌≤◌, [], IfSome, IsFalse, IsTrue, Some, length, take, get_or};
 ghost use Rattle.tb_model.specs.declared.step_id.StepId.{StepId};
@@ -15,7 +16,7 @@ use crate::history::History;
 use crate::scans::{holds, is_member};
 use tb_model::{Action, Item, TaskName, some_apart, some_before};
 
-/// The place of the earliest entry that needs the one at this place.
+/// The index of the earliest stored step that needs the one at this index.
 pub fn first_needer(entries: &History<'_>, at: usize) -> Option<usize>
     requires { at < length entries.now }
     ensures needer { (id : StepId) → AreLegal entries.now → step_at entries.now at ≡ Some id →
@@ -33,8 +34,8 @@ pub fn first_needer(entries: &History<'_>, at: usize) -> Option<usize>
     None
 }
 
-/// A place from this one on, in front of which no entry needs the one at `at`. Unless that is an end,
-/// what needs it is a step of its task, or one that has to do with what it did.
+/// An index from this one on, in front of which no stored step needs the one at `at`. Unless that
+/// is an end, what needs it is a step of its task, or one that has to do with what it did.
 fn next_chance(entries: &History<'_>, at: usize, from: usize) -> usize
     requires at { at < from }
     requires from { from ≤ length entries.now }
@@ -50,7 +51,7 @@ fn next_chance(entries: &History<'_>, at: usize, from: usize) -> usize
     own.min(next_met(entries, action, from))
 }
 
-/// Whether the task of the step at this place was generated with depend items.
+/// Whether the task of the step at this index was generated with depend items.
 fn has_items(entries: &History<'_>, at: usize) -> bool
     requires { at < length entries.now }
     ensures { IsFalse result → (e : AnEntry) → e ≡ get_or entries.now at e →
@@ -60,7 +61,8 @@ fn has_items(entries: &History<'_>, at: usize) -> bool
     !entries.items(entries.task(at)).is_empty()
 }
 
-/// The first place from this one on at which the end at `at` may be waited for, else how many there are.
+/// The first index from this one on at which the end at `at` may be waited for, else how many there
+/// are.
 fn next_wait(entries: &History<'_>, at: usize, from: usize) -> usize
     requires at { at < from }
     requires from { from ≤ length entries.now }
@@ -97,7 +99,7 @@ fn may_wait_for(action: &Action, t: &TaskName, u: &TaskName, has_items: bool) ->
     waits || t.is_parent_of(u) || *t == *u
 }
 
-/// The first place from this one on whose step has to do with the action, else how many there are.
+/// The first index from this one on whose step has to do with the action, else how many there are.
 fn next_met(entries: &History<'_>, action: &Action, from: usize) -> usize
     requires { from ≤ length entries.now }
     ensures from { from ≤ result }
@@ -112,7 +114,7 @@ fn next_met(entries: &History<'_>, action: &Action, from: usize) -> usize
     }
 }
 
-/// Whether the step at the place `later` directly needs that at the place `earlier`.
+/// Whether the step at the index `later` directly needs that at the index `earlier`.
 pub fn needs(entries: &History<'_>, later: usize, earlier: usize) -> bool
     requires later { later < length entries.now }
     requires earlier { earlier < later }
@@ -145,7 +147,7 @@ fn needs_event(front: &History<'_>, t: &TaskName, a: &Action, u: &TaskName, b: &
                     || (a.is_print() && b.is_print()))))
 }
 
-/// Whether the action of `t` comes behind the end of `u`.
+/// Whether the action of `t` comes after the end of `u`.
 fn needs_end_of(front: &History<'_>, t: &TaskName, action: &Action, u: &TaskName) -> bool
     requires legal { AreLegal front.now }
     requires later { IsTrue (is_spawned (history_of front.now) t.now) }

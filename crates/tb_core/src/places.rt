@@ -1,4 +1,4 @@
-//! Where the steps of a history stand among its entries, which come from the oldest.
+//! Where the steps of a history are among its stored steps, which come from the oldest.
 
 ghost use Rattle.std.specs.Prelude.{◌≡◌, ◌<◌, ◌≤◌, ◌↔◌, IfOk, IfSome, IsErr, IsSome, IsTrue, Some, length, slice_get};
 ghost use Rattle.tb_model.specs.declared.step_id.StepId.{StepId as AStepId};
@@ -14,7 +14,7 @@ use crate::history::History;
 use std::alloc::AllocError;
 use tb_model::{StepId, TaskName};
 
-/// The place of a step: where the kth event of its task stands.
+/// The index of a step: where the kth event of its task is.
 #[tactic(auto, using(tb_steps::proofs::ScanLemmas::found_stands, tb_steps::proofs::ScanLemmas::found_step_at))]
 pub fn place_of(entries: &History<'_>, id: &StepId) -> Option<usize>
     ensures there { IsSome result ↔ IsTrue (stands id.now (history_of entries.now)) }
@@ -33,7 +33,7 @@ pub fn place_of(entries: &History<'_>, id: &StepId) -> Option<usize>
     None
 }
 
-/// The place of a step, read off those of its task's steps.
+/// The index of a step, read off those of its task's steps.
 pub fn place_in(own: &[u32], entries: &History<'_>, id: &StepId) -> Option<usize>
     requires { own.now ≡ places_where (is_of id.now.task) (events_in entries.now) }
     ensures there { IsSome result ↔ IsTrue (stands id.now (history_of entries.now)) }
@@ -59,7 +59,8 @@ fn is_number_of(id: &StepId, steps: usize) -> bool
     true
 }
 
-/// The step at this place. It can be refused where a copy of its task's name can, beyond three numbers.
+/// The step at this index. It can be refused where a copy of its task's name can, beyond three
+/// ordinals.
 pub fn step_at(entries: &History<'_>, at: usize) -> Result<StepId, AllocError>
     requires within { at < length entries.now }
     requires bound { length entries.now ≤ 1000000 }
@@ -70,7 +71,7 @@ pub fn step_at(entries: &History<'_>, at: usize) -> Result<StepId, AllocError>
     Ok(StepId { task, k })
 }
 
-/// The step at this place, where its task's places are these.
+/// The step at this index, where its task's indexes are these.
 pub fn step_among(own: &[u32], entries: &History<'_>, at: usize) -> Result<StepId, AllocError>
     requires within { at < length entries.now }
     requires bound { length entries.now ≤ 1000000 }
@@ -84,8 +85,8 @@ pub fn step_among(own: &[u32], entries: &History<'_>, at: usize) -> Result<StepI
     Ok(StepId { task, k })
 }
 
-/// The number of the step at this place, found among its task's places. Where it isn't among them,
-/// the steps in front of it are counted.
+/// The ordinal of the step at this index, found among its task's indexes. Where it isn't among
+/// them, the steps in front of it are counted.
 fn ordinal_among(own: &[u32], entries: &History<'_>, at: usize) -> u32
     requires within { at < length entries.now }
     requires bound { length entries.now ≤ 1000000 }
@@ -99,7 +100,8 @@ fn ordinal_among(own: &[u32], entries: &History<'_>, at: usize) -> u32
     }
 }
 
-/// The number of the step at this place among the steps of its task, from 1, found among the places of these.
+/// The ordinal of the step at this index among the steps of its task, from 1, found among the
+/// indexes of these.
 pub fn ordinal_of(entries: &History<'_>, at: usize) -> u32
     requires within { at < length entries.now }
     requires bound { length entries.now ≤ 1000000 }
@@ -111,7 +113,8 @@ pub fn ordinal_of(entries: &History<'_>, at: usize) -> u32
     }
 }
 
-/// The number of the step at this place among the steps of its task, from 1, counted over the entries in front of it.
+/// The ordinal of the step at this index among the steps of its task, from 1, counted over the
+/// stored steps in front of it.
 fn counted_ordinal(entries: &History<'_>, at: usize) -> u32
     requires within { at < length entries.now }
     requires bound { length entries.now ≤ 1000000 }
@@ -120,7 +123,7 @@ fn counted_ordinal(entries: &History<'_>, at: usize) -> u32
     steps_of(&entries.front(at), entries.task(at)) as u32 + 1
 }
 
-/// How many of the entries are the task's.
+/// How many of the stored steps are the task's.
 pub(crate) fn steps_of(entries: &History<'_>, t: &TaskName) -> usize
     ensures count { result ≡ length (own t.now (history_of entries.now)) }
     ensures within { result ≤ length entries.now }

@@ -2,7 +2,7 @@
 
 use tb_model::{Action, StepId};
 
-/// A step that stands in the history no more, and what it had done.
+/// A step that is in the history no more, and what it had done.
 #[derive(Debug, Drop)]
 pub struct Removed {
     pub id: StepId,

@@ -1,7 +1,7 @@
-//! The places of the entries, where some of these go: each that comes after these is one lower for each
-//! that went. Each row of the indexes is gone over, behind the first that goes. Where there are more rows
-//! than entries behind that, these are taken off the indexes and put back in place of it. Each entry has
-//! its task's number.
+//! The indexes of the stored steps, where some of these go: each that comes after these is one
+//! lower for each that went. Each row of the indexes is gone over, after the first that goes. Where
+//! there are more rows than stored steps after that, these are taken off the indexes and put back
+//! in place of it. Each stored step has its task's id.
 
 ghost use Rattle.std.specs.Prelude.{◌≡◌, ◌≤◌, ◌<◌, ◌++◌, ℕ, IsTrue, false, length, take, drop};
 ghost use Rattle.std.specs.List.{AllZip, IsDistinct};
@@ -16,7 +16,7 @@ use crate::entry::Entry;
 use tb_places::Places;
 use tb_undo::Tables;
 
-/// Renumbers the entries that stay where those at these places, which rise, go.
+/// Renumbers the stored steps that stay where those at these indexes, which rise, go.
 pub fn renumber(places: &mut Places, tables: &Tables, entries: &[Entry], going: &[u32])
     requires index { IsIndexOf (names_in tables.now) (events_in (entries_in tables.now entries.now)) places.old }
     requires stored { AllZip (IsStored (names_in tables.now)) entries.now (entries_in tables.now entries.now) }
@@ -35,7 +35,7 @@ pub fn renumber(places: &mut Places, tables: &Tables, entries: &[Entry], going: 
     refill(places, tables, entries, first, going);
 }
 
-/// The first place that goes, or the end.
+/// The first index that goes, or the end.
 pub fn first_of(going: &[u32], end: usize) -> usize
     ensures within { result ≤ end }
     ensures first { (at : ℕ) → at < result → goes_at at going.now ≡ false }
@@ -46,7 +46,7 @@ pub fn first_of(going: &[u32], end: usize) -> usize
     }
 }
 
-/// Takes the entries from this place on off the indexes.
+/// Takes the stored steps from this index on off the indexes.
 // for the proof: `_tables`, which clauses name
 fn cut(places: &mut Places, _tables: &Tables, entries: &[Entry], first: usize)
     requires index { IsIndexOf (names_in _tables.now) (events_in (entries_in _tables.now entries.now)) places.old }
@@ -64,7 +64,7 @@ fn cut(places: &mut Places, _tables: &Tables, entries: &[Entry], first: usize)
     }
 }
 
-/// Puts the entries from the first place on that stay back, each with its new place.
+/// Puts the stored steps from the first index on that stay back, each with its new index.
 // for the proof: `_tables`, which clauses name
 fn refill(places: &mut Places, _tables: &Tables, entries: &[Entry], first: usize, going: &[u32])
     requires index { IsIndexOf (names_in _tables.now) (take first (events_in (entries_in _tables.now entries.now))) places.old }
@@ -89,7 +89,7 @@ fn refill(places: &mut Places, _tables: &Tables, entries: &[Entry], first: usize
     }
 }
 
-/// Whether the next that goes is the one at this place.
+/// Whether the next that goes is the one at this index.
 pub fn goes(going: &[u32], next: usize, at: usize) -> bool
     ensures goes { result ≡ goes_at at (drop next going.now) }
     ensures within { IsTrue result → next < length going.now }

@@ -43,7 +43,7 @@ pub struct Core {
     entries: Vec<Entry>,
     places: Places,
     tables: Tables,
-    // the event for which all room is made
+    // the event for which all capacity is reserved
     reserved: Option<Event>,
 }
 
@@ -96,7 +96,7 @@ impl Core {
         ensures within { length self.now.run.steps ≤ self.now.run.limit }
         ensures bound { self.now.run.limit ≤ 1000000 }
     {
-        // for the proof: what the type keeps is known where a field is read
+        // for the proof: what the type retains is known where a field is read
         let _limit = self.limit;
     }
 
@@ -134,7 +134,7 @@ impl Core {
         self.tables.has_ended(task)
     }
 
-    /// Whether the task has ended or faulted. Its standing says where it is looked for first.
+    /// Whether the task has ended or faulted. Its situation says where it is looked for first.
     #[inline(always)]
     pub fn has_ended_at(&self, standing: &Standing<'_>, task: &TaskName) -> bool
         ensures { result ≡ has_ended self.now.run task.now }
@@ -142,7 +142,7 @@ impl Core {
         self.tables.has_ended_at(standing, task)
     }
 
-    /// Where a task stands that is there.
+    /// The situation of a task that is there.
     #[inline(always)]
     pub fn standing(&self, task: &TaskName) -> Option<Standing<'_>>
         ensures some { IfSome result (λ k. IsTrue (is_spawned (history self.now.run) task.now) × (config_of self.now.run task.now ≡ config_with task.now k)) }
@@ -151,8 +151,8 @@ impl Core {
         self.tables.standing(task)
     }
 
-    /// Where a task stands that is there, in a walk over tasks: `near` hands on where the last one
-    /// was found, at first none.
+    /// The situation of a task that is there, in a walk over tasks: `near` hands on where the last
+    /// one was found, at first none.
     pub fn walk_standing(&self, near: &mut Option<usize>, task: &TaskName) -> Option<Standing<'_>>
         ensures some { IfSome result (λ k. IsTrue (is_spawned (history self.now.run) task.now) × (config_of self.now.run task.now ≡ config_with task.now k)) }
         ensures none { IfNone result (IsFalse (is_spawned (history self.now.run) task.now)) }
@@ -160,8 +160,8 @@ impl Core {
         self.tables.walk_standing(near, task)
     }
 
-    /// Turns to the task that steps next, which a walk found here. Nothing that the core says changes: what is kept of the
-    /// task is looked for where it is.
+    /// Turns to the task that steps next, which a walk found here. Nothing that the core says
+    /// changes: what is stored of the task is looked for where it is.
     pub fn turn_to(&mut self, near: Option<usize>, task: &TaskName)
         ensures { self.new ≡ self.old }
     {
@@ -192,7 +192,7 @@ impl Core {
         }
     }
 
-    /// Whether nothing keeps a task that goes on from the action. It takes no memory.
+    /// Whether nothing blocks the action of a task that goes on. It takes no memory.
     pub fn is_clear(&self, task: &TaskName, action: &Action) -> bool
         requires there { IsTrue (is_spawned (history self.now.run) task.now) }
         requires going { IsFalse (has_ended self.now.run task.now) }
@@ -201,7 +201,7 @@ impl Core {
         self.tables.is_clear(task, action)
     }
 
-    /// Whether nothing keeps a task that goes on from the action. Its standing says where it is
+    /// Whether nothing blocks the action of a task that goes on. Its situation says where it is
     /// looked for first. It takes no memory.
     #[inline(always)]
     pub fn is_clear_at(&self, standing: &Standing<'_>, task: &TaskName, action: &Action) -> bool
@@ -212,7 +212,8 @@ impl Core {
         self.tables.is_clear_at(standing, task, action)
     }
 
-    /// What keeps a task that goes on from the action. It was asked where the task stands, so that it isn't looked for again.
+    /// What blocks the action of a task that goes on. It was asked where the task is, so that it
+    /// isn't looked for again.
     pub fn hindrance(
         &self,
         standing: &Standing<'_>,
@@ -255,8 +256,9 @@ impl Core {
         None
     }
 
-    /// Makes the room that `step` needs for this plan, and tells the event to come, twice, since who keeps it beside the
-    /// journal needs it twice. At a refusal, for want of memory too, nothing has changed: what was reserved stays so.
+    /// Reserves the capacity that `step` needs for this plan, and returns the event to come, twice,
+    /// since who stores it with the journal needs it twice. At a refusal, for want of memory too,
+    /// nothing has changed: what was reserved stays so.
     pub fn reserve_step(&mut self, plan: &Plan) -> Result<(Event, Event), StepRefusal>
         requires { Fits self.old.run plan.now }
         ensures run { self.new.run ≡ self.old.run }
@@ -275,9 +277,9 @@ impl Core {
         }
     }
 
-    /// Takes the step that was planned. What can fail comes first: at a refusal, for want of memory too, nothing has
-    /// changed, and what is reserved stays so. Right after a `reserve_step` of the same plan that answered Ok it takes no
-    /// memory.
+    /// Executes the step that was planned. What can fail comes first: at a refusal, for want of
+    /// memory too, nothing has changed, and what is reserved stays so. Right after a `reserve_step`
+    /// of the same plan that answered Ok it takes no memory.
     pub fn step(&mut self, plan: Plan) -> Result<StepId, StepRefusal>
         requires { Fits self.old.run plan }
         ensures stepped { Stepped self.old.run plan self.new.run result }
@@ -296,7 +298,7 @@ impl Core {
         }
     }
 
-    /// Takes an event that may follow the others.
+    /// Applies an event that may follow the others.
     #[inline(always)]
     fn append(&mut self, event: Event, to: u32) -> Result<(), AllocError>
         requires may { MayFollow self.old.run.cells (history self.old.run) event }
@@ -317,8 +319,8 @@ impl Core {
         Ok(())
     }
 
-    /// The steps that stand, from the oldest to the newest, each with the line at which it left its
-    /// task and what it replaced: they are a legal history.
+    /// The steps that are there, from the oldest to the newest, each with the line at which it left
+    /// its task and what it replaced: they are a legal history.
     pub fn legal_entries(&self) -> History<'_>
         ensures steps { map departure (reverse result) ≡ self.now.run.steps }
         ensures legal { AreLegal result }
@@ -329,8 +331,9 @@ impl Core {
     }
 }
 
-/// The patterns name every field: none is a program, and a step's record is all that is kept for its
-/// undo. They are compiled with the crate, so that a further field is refused until it stands here.
+/// The patterns name every field: none is a program, and a step's record is all that is retained
+/// for its undo. They are compiled with the crate, so that a further field is refused until it is
+/// named here.
 fn name_every_field(core: &Core, entry: &Entry) {
     let Core {
         alloc: _,
@@ -350,7 +353,7 @@ fn name_every_field(core: &Core, entry: &Entry) {
     } = entry;
 }
 
-/// Makes room for one more entry, mostly without a call.
+/// Reserves capacity for one more stored step, mostly without a call.
 #[inline(always)]
 fn reserve_one(entries: &mut Vec<Entry>) -> Result<(), AllocError>
     ensures items { entries.new.items ≡ entries.old.items }

@@ -1,4 +1,4 @@
-//! What the events in front of a step say of a task, found by a scan from the newest entry.
+//! What the events in front of a step say of a task, found by a scan from the newest stored step.
 
 ghost use Rattle.std.specs.Prelude.{◌≡◌, ◌∷◌, List};
 ghost use Rattle.tb_model.specs.declared.action.Action.{Action};

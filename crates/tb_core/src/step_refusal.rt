@@ -1,4 +1,4 @@
-//! Why a step isn't taken.
+//! Why a step isn't executed.
 
 ghost use Rattle.std.specs.Prelude.{◌≡◌};
 ghost use Rattle.tb_core.specs.Refusals.{step_number};
@@ -6,7 +6,7 @@ ghost use Rattle.tb_core.specs.Refusals.{step_number};
 use crate::elsewhere::Elsewhere;
 use tb_model::TaskName;
 
-/// Why a task doesn't take the step that was planned for it.
+/// Why a task doesn't execute the step that was planned for it.
 #[derive(Debug, Drop)]
 pub enum StepRefusal {
     /// A growth was refused.
@@ -17,7 +17,7 @@ pub enum StepRefusal {
     Ended,
     /// The least task that is before it and hasn't ended.
     Waiting { pred: TaskName },
-    /// The least task that is apart from it, has started and hasn't ended.
+    /// The least task that excludes it, has started and hasn't ended.
     Excluded { by: TaskName },
     /// The least child that its `taskwait` waits for and that hasn't ended.
     Children { first: TaskName },
@@ -25,14 +25,14 @@ pub enum StepRefusal {
     Group { first: TaskName },
     /// The history has as many events as it may have.
     Full,
-    /// The task stands elsewhere now than the plan took for granted.
+    /// The task is at another line now than the plan took for granted.
     Stale { now: Elsewhere },
-    /// The undeferred child at which it stands hasn't ended.
+    /// The undeferred child for which it waits hasn't ended.
     Undeferred { child: TaskName },
 }
 
 impl StepRefusal {
-    /// The number by which replies name the refusal.
+    /// The code by which replies name the refusal.
     pub fn number(&self) -> u8
         ensures { result ≡ step_number self.now }
     {

@@ -14,12 +14,12 @@ pub enum UndoRefusal {
     NoSuchStep,
     /// A later step needs it, of which this is the earliest.
     Needed { by: StepId },
-    /// The journal has no place for the undo.
+    /// The journal has no slot for the undo.
     Full,
 }
 
 impl UndoRefusal {
-    /// The number by which replies name the refusal.
+    /// The code by which replies name the refusal.
     pub fn number(&self) -> u8
         ensures { result ≡ undo_number self.now }
     {

@@ -1,5 +1,5 @@
-//! Entries that go are taken out, from the newest on, and what stays is then moved over them. So each
-//! entry that stays is moved once, however many go.
+//! Stored steps that go are taken out, from the newest on, and what stays is then moved over them.
+//! So each stored step that stays is moved once, however many go.
 
 ghost use Rattle.std.specs.Prelude.{◌≡◌, reverse};
 ghost use Rattle.tb_wait.specs.Kin.{KeepsNames};
@@ -20,7 +20,8 @@ use std::mem::replace;
 use tb_model::{Event, StepId};
 use tb_undo::Tables;
 
-/// Takes the entries that go out, each back by its own record, and answers them from the newest on.
+/// Takes the stored steps that go out, each back by its own record, and answers them from the
+/// newest on.
 pub fn unwind(entries: &mut Vec<Entry>, tables: &mut Tables, rollback: Rollback) -> Vec<Removed>
     requires tied { AreTied (reverse (entries_in tables.old entries.old.items)) tables.old }
     requires stored { AllZip (IsStored (names_in tables.old)) entries.old.items (entries_in tables.old entries.old.items) }
@@ -48,7 +49,7 @@ pub fn unwind(entries: &mut Vec<Entry>, tables: &mut Tables, rollback: Rollback)
     removed
 }
 
-/// Moves the entries that stay over those that go.
+/// Moves the stored steps that stay over those that go.
 fn close(entries: &mut Vec<Entry>, going: &[u32])
     ensures { entries.new.items ≡ left_from 0 going.now entries.old.items }
 {

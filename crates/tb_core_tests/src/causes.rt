@@ -9,10 +9,10 @@ use tb_cause::{needed_by, needs};
 use tb_core::{Core, History, needs as needs_step, step_at};
 use tb_model::StepId;
 
-/// The places of a history of at most 64 steps, marked or not.
+/// The indexes of a history of at most 64 steps, marked or not.
 type Marks = [bool; 64];
 
-/// Whether a marked step after this place needs the one there.
+/// Whether a marked step after this index needs the one there.
 fn is_needed(entries: &History<'_>, marks: &Marks, earlier: usize) -> bool
     requires here { earlier < length entries.now }
     requires few { length entries.now ≤ 64 }
@@ -25,7 +25,7 @@ fn is_needed(entries: &History<'_>, marks: &Marks, earlier: usize) -> bool
     false
 }
 
-/// Whether the step at this place needs a marked one in front of it.
+/// Whether the step at this index needs a marked one in front of it.
 fn needs_marked(entries: &History<'_>, marks: &Marks, later: usize) -> bool
     requires here { later < length entries.now }
     requires few { length entries.now ≤ 64 }
@@ -38,7 +38,7 @@ fn needs_marked(entries: &History<'_>, marks: &Marks, later: usize) -> bool
     false
 }
 
-/// Asserts that the found steps are exactly the marked ones but that at the place, in the order of
+/// Asserts that the found steps are exactly the marked ones but that at the index, in the order of
 /// the history.
 fn compare(
     rt: &(impl Abort + AllocGlobal),
@@ -61,7 +61,7 @@ fn compare(
     assert_eq!(rt; next, found.len());
 }
 
-/// What needs the step at the place is what a scan finds.
+/// What needs the step at the index is what a scan finds.
 fn compare_needers(
     rt: &(impl Abort + AllocGlobal),
     core: &Core,
@@ -82,7 +82,7 @@ fn compare_needers(
     mem::forget(found);
 }
 
-/// What the step at the place needs is what a scan finds.
+/// What the step at the index needs is what a scan finds.
 fn compare_causes(
     rt: &(impl Abort + AllocGlobal),
     core: &Core,

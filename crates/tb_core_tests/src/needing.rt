@@ -21,7 +21,7 @@ fn printed(rt: &(impl Abort + AllocGlobal), id: StepId) -> String {
     text
 }
 
-/// The earliest step that needs the one at the place is this, or there is none and it is free.
+/// The earliest step that needs the one at the index is this, or there is none and it is free.
 fn compare_needer(rt: &(impl Abort + AllocGlobal), entries: &History<'_>, at: usize, by: &str) {
     assert!(rt; at < entries.len() && entries.len() <= 1_000_000);
     match first_needer(entries, at) {
@@ -34,7 +34,7 @@ fn compare_needer(rt: &(impl Abort + AllocGlobal), entries: &History<'_>, at: us
     }
 }
 
-/// Each step has this earliest needer, where the tasks of the program take steps in this order.
+/// Each step has this earliest needer, where the tasks of the program execute steps in this order.
 fn compare(rt: &(impl Abort + AllocGlobal), text: &[u8], names: &[&str], needers: &[(&str, &str)]) {
     let core = taken(rt, text, names);
     let entries = core.legal_entries();

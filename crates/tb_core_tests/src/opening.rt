@@ -1,4 +1,4 @@
-//! That a core opens.
+//! Tests that a core opens.
 
 use std::alloc::AllocGlobal;
 use std::mem;

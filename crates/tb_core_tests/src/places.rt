@@ -1,5 +1,6 @@
-//! The places that a core lends, against a scan of its steps: after each step, undo and rollback of
-//! histories that are made by a fixed rule. At the end of each, what its steps need and what needs them.
+//! The indexes that a core lends, against a scan of its steps: after each step, undo and rollback
+//! of histories that are made by a fixed rule. At the end of each, what its steps need and what
+//! needs them.
 
 use crate::causes;
 use crate::taking::fits;
@@ -51,7 +52,7 @@ fn passes(task: &TaskName, action: &Action, wanted: &Wanted) -> bool {
     }
 }
 
-/// Asserts that the found places are those of exactly the steps that are wanted.
+/// Asserts that the found indexes are those of exactly the steps that are wanted.
 fn compare(rt: &impl Abort, found: &[u32], entries: &History<'_>, wanted: &Wanted) {
     let mut next = 0;
     for at in 0..entries.len() {
@@ -76,7 +77,7 @@ fn compare_all(rt: &(impl Abort + AllocGlobal), core: &Core) {
     compare(rt, core.prints(), &entries, &Wanted::Print);
 }
 
-/// The task takes its next step, if it has one.
+/// The task executes its next step, if it has one.
 fn take_step(rt: &(impl Abort + AllocGlobal), program: &Program, core: &mut Core, task: &TaskName) {
     if core.has_ended(task) {
         return;

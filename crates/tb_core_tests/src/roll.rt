@@ -93,7 +93,7 @@ fn compare_all(rt: &(impl Abort + AllocGlobal), core: &Core) {
     }
 }
 
-/// How many steps the task had taken where the refusal found it.
+/// How many steps the task had executed where the refusal found it.
 fn steps_elsewhere(rt: &impl Abort, refusal: Option<StepRefusal>) -> u32 {
     let Some(StepRefusal::Stale { now }) = refusal else {
         panic!(rt; "not stale")
@@ -173,7 +173,7 @@ fn compare_needs(rt: &(impl Abort + AllocGlobal), core: &Core, row: &(&str, &str
     assert_eq!(rt; told(rt, &earlier).as_str(), row.2);
 }
 
-/// A step that doesn't stand is refused in each call.
+/// A step that isn't there is refused in each call.
 fn refuse(rt: &(impl Abort + AllocGlobal), core: &mut Core, id: &StepId) {
     let by = needed_by(rt.alloc(), core, id).expect_err(rt, "no such step");
     assert_eq!(rt; by.number(), 1);
@@ -183,7 +183,7 @@ fn refuse(rt: &(impl Abort + AllocGlobal), core: &mut Core, id: &StepId) {
     assert_eq!(rt; kept.number(), 1);
 }
 
-/// Rolls a step back in two parts: what goes is told in both.
+/// Rolls a step back in two parts: what goes is returned in both.
 fn roll_in_two(rt: &(impl Abort + AllocGlobal), core: &mut Core, id: &str, steps: &str) {
     let id = step(rt, id);
     let prepared = ready(rt.alloc(), core, &id).expect(rt, steps);

@@ -1,4 +1,4 @@
-//! Cores in which the tasks of a program took steps.
+//! Cores in which the tasks of a program executed steps.
 
 ghost use Rattle.std.specs.Prelude.{IsTrue};
 ghost use Rattle.tb_core.specs.Outcomes.{Fits};
@@ -63,7 +63,7 @@ pub fn opened(rt: &(impl Abort + AllocGlobal), program: &Program) -> Core {
     core.expect(rt, "memory is there")
 }
 
-/// The core in which the tasks took their steps in this order.
+/// The core in which the tasks executed their steps in this order.
 pub fn taken(rt: &(impl Abort + AllocGlobal), text: &[u8], names: &[&str]) -> Core {
     let program = read(rt.alloc(), text).expect(rt, "an accepted program");
     let mut core = opened(rt, &program);

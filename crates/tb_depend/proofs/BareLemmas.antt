@@ -21,7 +21,7 @@ pub rows_bare : (count : ℕ) → rows_from 0 (replicate count 0) [] ≡ replica
 rows_bare zero = refl
 rows_bare (suc k) = ap (λ rows. [] ∷ rows) (rows_bare k)
 
--- ---- how they stand to each other
+-- ---- how they relate to each other
 
 pub items_bare : (count n : ℕ) → items_at (replicate count []) n ≡ []
 items_bare count zero = refl

@@ -134,7 +134,7 @@ before_met new items n meeting r m b = record {
 
 -- ---- a step towards the front
 
--- none behind this place comes before the new one
+-- none after this index comes before the new one
 abbrev pub AreNoneBehind : (Item → Bool) → List Item → ℕ → ℕ → Type 0
 AreNoneBehind test items from at = (k : ℕ) (i : Item) → k < from → slice_get items k ≡ Some i → IsTrue (test i) → k < at
 
@@ -171,7 +171,7 @@ module _ (test : Item → Bool) (items : List Item) (from at : ℕ) (i : Item) w
         subst (λ x. IsTrue (test x)) (sym g) t;
   }
 
--- two items of one place, of which the new one doesn't come behind the other, are the same
+-- two items of one location, of which the new one doesn't come after the other, are the same
 pub one_item : (new old : Item) → is_place new.place old.place ≡ true → meets is_before new old ≡ false → old ≡ new
 one_item new old p e = ap₂ (λ k q. record { kind = k; place = q }) (sym (one_kind new.kind old.kind (at (is_before (relation new.kind old.kind)) refl))) (sym same)
   where

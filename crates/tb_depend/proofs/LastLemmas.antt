@@ -121,7 +121,7 @@ last_either f g h items n a b or l m = record {
     or_true true = refl
     or_true false = refl
 
--- ---- places
+-- ---- indexes
 
 eq_turned : (m n : ℕ) → (m == n) ≡ (n == m)
 eq_turned m n = at (m == n) refl (n == m) refl
@@ -167,7 +167,7 @@ met_both new c e a b m n = at a.place b.place (sym (ap (λ p. same_place p a.pla
 
 -- ---- kinds
 
--- two of which neither comes behind the other are of one kind
+-- two of which neither comes after the other are of one kind
 pub one_kind : (a b : Kind) → is_before (relation a b) ≡ false → a ≡ b
 one_kind In In e = refl
 one_kind In Out e = cc
@@ -196,7 +196,7 @@ kind_turned a b e = at (is_before (relation b a)) refl
         let same = one_kind b a f in
         absurd (false≢true (sym (subst (λ k. is_before (relation k a) ≡ false) same f) ∙ subst (λ k. is_before (relation a k) ≡ true) same e))
 
--- one that comes behind its own kind comes behind all
+-- one that comes after its own kind comes after all
 pub behind_all : (a b : Kind) → is_before (relation a a) ≡ true → is_before (relation a b) ≡ true
 behind_all a b e = at (is_before (relation a b)) refl
   where
@@ -208,7 +208,7 @@ behind_all a b e = at (is_before (relation a b)) refl
 pub read : {A : Type 0} (xs : List A) (k : ℕ) (x : A) → k < length xs → x ≡ get_or xs k x → slice_get xs k ≡ Some x
 read xs k x h e = slice_get_read xs (length xs) k x refl h e
 
--- there is an item at each place
+-- there is an item at each index
 pub there : {A : Type 0} (xs : List A) (k : ℕ) → k < length xs → (x : A) × (slice_get xs k ≡ Some x)
 there [] k h = absurd (omega arith)
 there (x ∷ xs) zero h = (x, refl)

@@ -45,7 +45,7 @@ row_outside start (e ∷ ends) items (suc (suc k)) h = row_outside e ends items 
 pred_suc : (k : ℕ) → suc k - 1 ≡ k
 pred_suc k = omega arith
 
--- the start behind an end
+-- the start after an end
 pub start_behind : (ends : List ℕ) (k : ℕ) → k ≢ 0 → get_or ends (k - 1) 0 ≡ start_at 0 ends k
 start_behind ends zero h = absurd (h refl)
 start_behind ends (suc k) h = ap (λ i. get_or ends i 0) (pred_suc k)
@@ -77,7 +77,7 @@ range_front xs ys a b h t =
     ap (take (b - a)) (drop-append-le a xs ys (omega arith))
     ∙ take-append-le (b - a) (drop a xs) ys (omega (arith, length-drop a xs))
 
--- the range behind the front
+-- the range after the front
 range_back : (xs ys : List Item) → slice_range (xs ++ ys) (length xs) (length xs + length ys) ≡ ys
 range_back xs ys =
     ap (take (length xs + length ys - length xs)) (drop-append_seam xs ys)
@@ -126,7 +126,7 @@ ends_pop start ends e items a =
     let n : length (take (end_of start ends) items) ≡ end_of start ends = omega (arith, length-take (end_of start ends) items) in
     subst (AreEnds start ends) (sym n) (ends_front start ends e (length items) a)
 
--- the last child has the items behind the others'
+-- the last child has the items after the others'
 pub length_last : (start : ℕ) (ends : List ℕ) (e : ℕ) (items : List Item) → AreEnds start (ends ++ e ∷ []) (length items) →
     length (get_or (rows_from start (ends ++ e ∷ []) items) (length ends) []) + end_of start ends ≡ length items
 length_last start [] e items a =

@@ -10,7 +10,7 @@ use Rattle.tb_depend.specs.Nearness.{AreItemsClosed, AreItemsOver}
 use Rattle.tb_depend.proofs.LastLemmas.{met_both, one_kind, kind_turned, behind_all}
 use Rattle.tb_depend.proofs.ChainLemmas.{same_item}
 
--- those from this place on
+-- the items from this index on that come before the new one are over
 abbrev pub AreOverFrom : List Item → (ℕ → Bool) → Item → ℕ → ℕ → Type 0
 AreOverFrom items over new from at = (k : ℕ) (old : Item) → at ≤ k → k < from → slice_get items k ≡ Some old → IsTrue (meets is_before new old) → IsTrue (over k)
 
@@ -41,7 +41,7 @@ module _ (items : List Item) (over : ℕ → Bool) (new : Item) (from : ℕ) whe
   pub not_over : (at : ℕ) (here : Item) → at < from → slice_get items at ≡ Some here → IsTrue (meets is_before new here) → over at ≡ false → AreItemsOver items over new from → ⊥
   not_over at here h e t f all = false≢true (sym f ∙ all at here h e t)
 
-  -- one that comes behind all
+  -- one that comes after all
   module _ (closed : AreItemsClosed items over) where
     pub over_all : (at : ℕ) (here : Item) → AreOverFrom items over new from at → slice_get items at ≡ Some here → here.place ≡ All → is_before (relation here.kind here.kind) ≡ true → IsTrue (over at) → AreItemsOver items over new from
     over_all at here all e p b o k old h f t = elim (cases_lt k at) [
@@ -49,7 +49,7 @@ module _ (items : List Item) (over : ℕ → Bool) (new : Item) (from : ℕ) whe
       | inr q ↦ all k old q h f t
     ]
 
-    -- the last one, where it comes behind all of its storage location
+    -- the last one, where it comes after all of its storage location
     pub over_one : (c : ℕ) → new.place ≡ Cell c → (last : ℕ) (its : Item) → IsLast (meets is_before new) items from (suc last) → slice_get items last ≡ Some its → is_before (relation its.kind its.kind) ≡ true → IsTrue (over last) → AreItemsOver items over new from
     over_one c p last its l e b o k old h f t = elim (cases_lt k last) [
       | inl q ↦
@@ -101,7 +101,7 @@ over_alike items over new its from closed some e same o k old h f t = elim (case
 pub of_run : (new its here : Item) → IsTrue (meets is_before new its) → IsTrue (is_met new here) → is_before (relation its.kind here.kind) ≡ false → IsTrue (meets is_before new here)
 of_run new its here t m b = both new here m (subst (λ q. is_before (relation new.kind q) ≡ true) (one_kind its.kind here.kind b) (kinds new its t))
 
--- what is behind the next one that is met
+-- what is after the next one that is met
 pub over_met : (items : List Item) (over : ℕ → Bool) (new : Item) (from at next : ℕ) → AreOverFrom items over new from (at - 1) →
     ((k : ℕ) (old : Item) → suc k < at → slice_get items k ≡ Some old → IsTrue (is_met new old) → k < next) → AreOverFrom items over new from next
 over_met items over new from at next all none k old low high e t = elim (cases_lt k (at - 1)) [

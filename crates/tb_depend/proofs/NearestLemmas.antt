@@ -1,4 +1,4 @@
--- The children near one decide whether all on which it depends are over.
+-- The nearest children of one decide whether all on which it depends are over.
 use Rattle.std.proofs.Common.{◌≡◌, ◌<◌, ◌≤◌, ◌-◌, ◌+◌, ◌==◌, ℕ, zero, suc, List, [], ◌∷◌, ◌++◌, Bool, true, false, ◌&&◌, slice_get, Some, length, refl, sym, ap, ap₂, ◌∙◌, subst, inl, inr, ◌⊎◌, arith, nat_lt}
 use Rattle.std.specs.Prelude.{IsTrue, Contains}
 use Rattle.std.specs.List.{list_any}
@@ -47,15 +47,15 @@ module _ (items : List Item) (over : ℕ → Bool) (new : Item) (from at last : 
   parted_over (inl u) = met_over u.0 u.1 u.2
   parted_over (inr u) = all k mid low (omega (arith, high, within)) here u
 
--- children were added that have items before the new one, such that where they are over, so are those of the items from
--- this place on
+-- children were added that have items before the new one, such that where they are over, so are
+-- those of the items from this index on
 pub record AddsFrom (ends : List ℕ) (items : List Item) (new : Item) (from : ℕ) (before after : List ℕ) (at : ℕ) : Type 0 where
   pub keeps : (m : ℕ) → Contains before m → Contains after m
   pub part : (m : ℕ) → Contains after m → Contains before m ⊎ HasItemBefore ends items new from m
   pub decides : (over : ℕ → Bool) → AreItemsClosed items (λ k. over (child_at ends k)) → AreAllOver over after → AreOverFrom items (λ k. over (child_at ends k)) new from at
 
 module _ (ends : List ℕ) (items : List Item) (new : Item) (from : ℕ) (before : List ℕ) where
-  -- none stands behind the last one
+  -- none is after the last one
   pub adds_none : (at : ℕ) → IsLast (meets is_before new) items from at → AddsFrom ends items new from before before at
   adds_none at last = record {
     keeps = λ m h. h;
@@ -74,7 +74,8 @@ module _ (ends : List ℕ) (items : List Item) (new : Item) (from : ℕ) (before
     ];
   }
 
-  -- one that is passed by one behind it, which comes before the new one or before the last one that does
+  -- one that is passed by one after it, which comes before the new one or before the last one that
+  -- does
   adds_passed : (after : List ℕ) (at last : ℕ) (here : Item) → 0 < at → at ≤ last → last ≤ from → last ≤ length items → IsLastBefore items new last → slice_get items (at - 1) ≡ Some here → IsPassed items new (at - 1) last → AddsFrom ends items new from before after at
       → AddsFrom ends items new from before after (at - 1)
   adds_passed after at last here some up within full final e p a = record {
@@ -125,7 +126,7 @@ module _ (ends : List ℕ) (items : List Item) (new : Item) (from : ℕ) (before
 
 -- ---- all items of one child
 
--- by those of its items that stand in front of this place
+-- by those of its items that are before this index
 pub record AreNearSoFar (ends : List ℕ) (items : List Item) (n from at : ℕ) (near : List ℕ) : Type 0 where
   pub part : (m : ℕ) → Contains near m → IsTrue (depends (rows_from 0 ends items) n m)
   pub decides : (over : ℕ → Bool) → IsClosed (rows_from 0 ends items) over → AreAllOver over near → (i : ℕ) (new : Item) → from ≤ i → i < at → slice_get items i ≡ Some new → AreItemsOver items (λ k. over (child_at ends k)) new from
@@ -169,7 +170,7 @@ module _ (ends : List ℕ) (items : List Item) (a : AreEnds 0 ends (length items
     decides = λ over closed all. all_are ends items a over n from to row (λ i new low h e. s.decides over closed all i new low (omega (arith, h, high)) e);
   }
 
--- ---- listed by rising number
+-- ---- listed by rising ordinal
 
 among_contains : (near : List ℕ) (m : ℕ) → IsTrue (is_among near m) → Contains near m
 among_contains near m h =

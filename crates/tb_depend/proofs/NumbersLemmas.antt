@@ -1,4 +1,4 @@
--- The numbers that pass a test.
+-- The ordinals that pass a test.
 use Rattle.std.proofs.Common.{◌≡◌, ◌<◌, ◌≤◌, ℕ, zero, suc, List, [], ◌∷◌, ◌++◌, Bool, true, false, cond, length, refl, ap, ap₂, sym, ◌∙◌, arith, append-nil}
 use Rattle.std.specs.Bool.{⊤}
 use Rattle.std.proofs.Common.{◌⊎◌, inl, inr, subst}
@@ -50,7 +50,7 @@ length_where test (suc k) = at (test (suc k)) (numbers_where test k) (length_whe
     at true ns h = omega (arith, length-append ns (suc k ∷ []))
     at false ns h = rw (append-nil ns) (omega arith)
 
--- behind the last number that passes
+-- after the last ordinal that passes
 pub where_past : (test : ℕ → Bool) (k n : ℕ) → k ≤ n → ((m : ℕ) → k < m → m ≤ n → test m ≡ false) → numbers_where test k ≡ numbers_where test n
 where_past test k zero h none = let e : k ≡ zero = omega arith in ap (numbers_where test) e
 where_past test k (suc n) h none = at (cases_lt n k) (λ l. where_past test k n l (λ m a b. none m a (omega arith)))
@@ -67,7 +67,7 @@ where_same f g zero h = refl
 where_same f g (suc k) h =
     ap₂ (λ ns b. ns ++ cond b (suc k ∷ []) []) (where_same f g k (λ m w. h m (omega arith))) (h (suc k) (omega arith))
 
--- ---- which numbers are there
+-- ---- which ordinals are there
 
 only : (n m : ℕ) → Contains (n ∷ []) m → n ≡ m
 only n m (zero, h, e) = e
@@ -99,6 +99,6 @@ listed_from test (suc k) m low high t = at (cases_lt k m) (λ h. listed_from tes
         Contains-append_right (numbers_where test k) (cond (test (suc k)) (suc k ∷ []) []) m
         (subst (λ b. Contains (cond b (suc k ∷ []) []) m) (sym (ap test (sym e) ∙ t)) (zero, omega arith, sym e))
 
--- a number is listed where it is in range and passes
+-- an ordinal is listed where it is in range and passes
 pub listed : (test : ℕ → Bool) (k m : ℕ) → Contains (numbers_where test k) m ↔ ((1 ≤ m) × (m ≤ k) × IsTrue (test m))
 listed test k m = (listed_then test k m, λ r. listed_from test k m r.0 r.1 r.2)

@@ -1,4 +1,4 @@
--- Which child stands where in the list of all items.
+-- Which child is where in the list of all items.
 use Rattle.std.proofs.Common.{◌≡◌, ◌<◌, ◌≤◌, ◌+◌, ◌-◌, ℕ, zero, suc, List, [], ◌∷◌, Bool, true, false, ◌&&◌, ◌||◌, cond, length, take, drop, slice_get, get_or, Some, refl, sym, ap, ap₂, ◌∙◌, subst, inl, inr, arith, nat_lt, le-ltb, lt-ltb, ltb-true}
 use Rattle.std.specs.Prelude.{IsTrue}
 use Rattle.std.specs.List.{list_any, slice_range}
@@ -12,9 +12,9 @@ use Rattle.tb_depend.specs.Layout.{rows_from, AreEnds, start_at, IsRow}
 use Rattle.tb_depend.specs.Nearness.{IsClosed, AreOver, AreOverFor, child_at, AreItemsClosed, AreItemsOver}
 use Rattle.tb_depend.proofs.LayoutLemmas.{row_at, row_outside}
 
--- ---- the child at a place
+-- ---- the child at an index
 
--- behind the start
+-- after the start
 above : (start : ℕ) (ends : List ℕ) (len j d : ℕ) → AreEnds start ends len → j < length ends → start ≤ get_or ends j d
 above start [] len j d a h = absurd (omega arith)
 above start (e ∷ ends) len zero d a h = a.0
@@ -27,7 +27,7 @@ ends_order start (e ∷ ends) len a zero (suc j) d h l = above e ends len j d a.
 ends_order start (e ∷ ends) len a (suc i) zero d h l = absurd (omega arith)
 ends_order start (e ∷ ends) len a (suc i) (suc j) d h l = ends_order e ends len a.1 i j d (omega arith) (omega arith)
 
--- the ends in front of the child's don't pass the place
+-- the ends in front of the child's don't pass the index
 pub child_found : (ends : List ℕ) (k r : ℕ) → r ≤ length ends → ((i d : ℕ) → i < r → get_or ends i d ≤ k) → ((i d : ℕ) → r ≤ i → i < length ends → k < get_or ends i d) → child_at ends k ≡ suc r
 child_found [] k r l low high = ap suc (omega (arith, l))
 child_found (e ∷ ends) k zero l low high = ap (λ b. cond b 1 (suc (child_at ends k))) (lt-ltb k e (high 0 0 (omega arith) (omega arith)))
@@ -35,7 +35,7 @@ child_found (e ∷ ends) k (suc r) l low high =
     ap (λ b. cond b 1 (suc (child_at ends k))) (le-ltb k e (low 0 0 (omega arith)))
     ∙ ap suc (child_found ends k r (omega arith) (λ i d h. low (suc i) d (omega arith)) (λ i d h t. high (suc i) d (omega arith) (omega arith)))
 
--- so it is where the end in front of it doesn't pass the place, and its own does
+-- an item is the child's where the end in front of it doesn't pass the index, and its own does
 pub found_between : (start : ℕ) (ends : List ℕ) (len k r : ℕ) → AreEnds start ends len → r < length ends → 0 < r → get_or ends (r - 1) 0 ≤ k → k < get_or ends r 0 → child_at ends k ≡ suc r
 found_between start ends len k r a l some low high =
     child_found ends k r (omega (arith, l))
@@ -54,7 +54,7 @@ start_above : (start : ℕ) (ends : List ℕ) (len r : ℕ) → AreEnds start en
 start_above start ends len zero a h = omega arith
 start_above start ends len (suc r) a h = above start ends len r 0 a (omega arith)
 
--- the child that has the place
+-- the child that has the index
 pub in_row : (start : ℕ) (ends : List ℕ) (len k : ℕ) → AreEnds start ends len → start ≤ k → k < len →
     (r : ℕ) × (child_at ends k ≡ suc r) × (r < length ends) × (start_at start ends r ≤ k) × (k < get_or ends r 0)
 in_row start [] len k a h l = absurd (omega (arith, a))
@@ -137,7 +137,7 @@ any_where f (y ∷ xs) e = elim (or_cases (f y) (list_any f xs) e) [
 pub nothing : (j : ℕ) (x : Item) → slice_get [] j ≡ Some x → ⊥
 nothing j x f = cc
 
--- ---- the items of a child, by their places
+-- ---- the items of a child, by their indexes
 
 module _ (ends : List ℕ) (items : List Item) (a : AreEnds 0 ends (length items)) where
   abbrev pub rows : List (List Item)

@@ -14,7 +14,7 @@ use Rattle.tb_depend.specs.Relations.{items_at, depends, excludes, is_covered, p
 use Rattle.tb_depend.specs.Numbers.{numbers_where}
 use Rattle.tb_depend.proofs.NumbersLemmas.{where_past, listed}
 
--- a child depends on none behind it
+-- a child depends on none after it
 pub preds_front : (siblings : List (List Item)) (n : ℕ) → numbers_where (depends siblings n) (min (length siblings) (n - 1)) ≡ preds_of siblings n
 preds_front siblings n =
     where_past (depends siblings n) (min (length siblings) (n - 1)) (length siblings) (omega arith)

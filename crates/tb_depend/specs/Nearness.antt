@@ -1,5 +1,5 @@
--- When all that come before are over, by the places of the items. No public clause cites this module but for
--- `IsClosed`, `AreOver`, `AreOverFor`, `AreAllOver` and `AreNear`.
+-- When all that come before are over, by the locations of the items. No public clause cites this
+-- module but for `IsClosed`, `AreOver`, `AreOverFor`, `AreAllOver` and `AreNear`.
 use Rattle.std.specs.Prelude.{◌≡◌, ◌==◌, ◌⊎◌, ◌<◌, ℕ, suc, List, [], ◌∷◌, Bool, Some, IsTrue, Contains, nat_lt, if◌then◌else◌, slice_get}
 use Rattle.std.specs.List.{list_any}
 use Rattle.tb_model.specs.declared.place.Place.TheVariants.{Cell}
@@ -29,12 +29,13 @@ pub record AreNear (siblings : List (List Item)) (n : ℕ) (near : List ℕ) : T
   pub part : (m : ℕ) → Contains near m → IsTrue (depends siblings n m)
   pub decides : (over : ℕ → Bool) → IsClosed siblings over → AreAllOver over near → AreOver siblings over n
 
--- the number of the child whose items end behind this place, and those of all children in front of it don't
+-- the ordinal of the child whose items end after this index, and those of all children in front of
+-- it don't
 abbrev pub child_at : List ℕ → ℕ → ℕ
 child_at [] k = 1
 child_at (e ∷ ends) k = if nat_lt k e then 1 else suc (child_at ends k)
 
--- an item that comes before one that is over is over, by the test of the items' places
+-- an item that comes before one that is over is over, by the test of the items' indexes
 abbrev pub AreItemsClosed : List Item → (ℕ → Bool) → Type 0
 AreItemsClosed items over =
     (p k : ℕ) (new old : Item) → k < p → slice_get items p ≡ Some new → slice_get items k ≡ Some old → IsTrue (meets is_before new old) → IsTrue (over p) → IsTrue (over k)
@@ -52,7 +53,8 @@ IsLastBefore items new last = (k : ℕ) (i : Item) → last ≡ suc k → slice_
 abbrev pub IsParted : Item → Item → Item → Type 0
 IsParted mid new old = ((c : ℕ) × (new.place ≡ Cell c) × IsTrue (is_met new mid)) ⊎ IsTrue (meets is_before new mid)
 
--- one of the first so many items, of which the last comes before the new one, comes behind the one at this place
+-- one of the first so many items, of which the last comes before the new one, comes after the one
+-- at this index
 pub record IsPassed (items : List Item) (new : Item) (at last : ℕ) : Type 0 where
   pub place : ℕ
   pub item : Item
@@ -72,6 +74,6 @@ pub record AddsNear (ends : List ℕ) (items : List Item) (new : Item) (from : �
   pub part : (m : ℕ) → Contains after m → Contains before m ⊎ HasItemBefore ends items new from m
   pub decides : (over : ℕ → Bool) → AreItemsClosed items (λ k. over (child_at ends k)) → AreAllOver over after → AreItemsOver items (λ k. over (child_at ends k)) new from
 
--- the number is one of these
+-- the ordinal is one of these
 abbrev pub is_among : List ℕ → ℕ → Bool
 is_among near m = list_any (λ k. k == m) near

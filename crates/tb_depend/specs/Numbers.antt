@@ -1,7 +1,7 @@
--- Lists of siblings' numbers.
+-- Lists of siblings' ordinals.
 use Rattle.std.specs.Prelude.{ℕ, zero, suc, List, [], ◌∷◌, ◌++◌, Bool, if◌then◌else◌, ⊤, ◌<◌}
 
--- the numbers from 1 to k that pass the test, rising
+-- the ordinals from 1 to k that pass the test, rising
 abbrev pub numbers_where : (ℕ → Bool) → ℕ → List ℕ
 numbers_where test zero = []
 numbers_where test (suc k) = numbers_where test k ++ (if test (suc k) then suc k ∷ [] else [])

@@ -1,4 +1,4 @@
--- How the children of one task stand to each other, by the items of each in the order of spawning.
+-- How the children of one task relate to each other, by the items of each in the order of spawning.
 -- OpenMP 5.2, 15.9.5 depend Clause, and 15.5 taskwait Construct.
 use Rattle.std.specs.Prelude.{ℕ, zero, suc, List, [], ◌∷◌, ◌++◌, Bool, ◌&&◌, ◌||◌, nat_lt, length, slice_index_or}
 use Rattle.tb_model.specs.declared.item.Item.{Item}
@@ -26,15 +26,15 @@ excludes siblings n m =
 abbrev pub is_covered : List (List Item) → List Item → ℕ → Bool
 is_covered siblings items n = has_no_items items || some_meet is_before items (items_at siblings n)
 
--- the numbers of the children on which the nth depends
+-- the ordinals of the children on which the nth depends
 abbrev pub preds_of : List (List Item) → ℕ → List ℕ
 preds_of siblings n = numbers_where (depends siblings n) (length siblings)
 
--- the numbers of the children that the nth excludes, before it and behind it
+-- the ordinals of the children that the nth excludes, before it and after it
 abbrev pub apart_of : List (List Item) → ℕ → List ℕ
 apart_of siblings n = numbers_where (excludes siblings n) (length siblings)
 
--- the numbers of the children that a `taskwait` with these items waits for
+-- the ordinals of the children that a `taskwait` with these items waits for
 abbrev pub covered_by : List (List Item) → List Item → List ℕ
 covered_by siblings items = numbers_where (is_covered siblings items) (length siblings)
 

@@ -5,7 +5,7 @@ use Rattle.tb_model.specs.declared.place.Place.{Place}
 use Rattle.tb_model.specs.declared.place.Place.TheVariants.{Cell, All}
 use Rattle.tb_model.specs.declared.item.Item.{Item}
 
--- there is room for the last item of the place
+-- there is capacity for the last item of the location
 abbrev pub is_named : List (ℕ × ℕ) → Place → Bool
 is_named cells (Cell c) = is_some (lookup (nat_eq c) cells)
 is_named cells All = true
@@ -19,9 +19,9 @@ pub record Table : Type 0 where
   pub item_places : ℕ
   -- how many links of items to those in front of them
   pub link_places : ℕ
-  -- the cells that have room for their last item, with it
+  -- the cells that have capacity for their last item, with it
   pub cells : List (ℕ × ℕ)
-  -- how many numbers the next child's list of predecessors has room for
+  -- how many ordinals the next child's list of predecessors has capacity for
   pub number_places : ℕ
 
 -- a child with these items can be added with no memory
@@ -32,7 +32,7 @@ pub record HasRoomFor (t : Table) (items : List Item) : Type 0 where
   pub its_heads : (i : Item) → Contains items i → is_named t.cells i.place ≡ true
   pub its_preds : length t.siblings ≤ t.number_places
 
--- no room is given back
+-- no capacity is given back
 pub record KeepsRoom (old new : Table) : Type 0 where
   pub places : old.places ≤ new.places
   pub items : old.item_places ≤ new.item_places
@@ -40,7 +40,7 @@ pub record KeepsRoom (old new : Table) : Type 0 where
   pub heads : (p : Place) → is_named old.cells p ≡ true → is_named new.cells p ≡ true
   pub numbers : old.number_places ≤ new.number_places
 
--- the room of a child with so many items is there again, and no other is given back
+-- the capacity of a child with so many items is there again, and no other is given back
 pub record FreesRoom (old new : Table) (count : ℕ) : Type 0 where
   pub places : new.places ≡ old.places + 1
   pub items : new.item_places ≡ old.item_places + count

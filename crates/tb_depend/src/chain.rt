@@ -12,8 +12,8 @@ use std::alloc::{AllocError, Global};
 use std::marker::Model;
 use tb_model::{Item, Place};
 
-/// The items of all children, one child's behind another's, with the links of each, and the last
-/// item of each place.
+/// The items of all children, one child's after another's, with the links of each, and the last
+/// item of each location.
 #[derive(Drop)]
 pub(crate) struct Chain {
     pub items: Vec<Item>,
@@ -57,7 +57,7 @@ impl Chain {
         self.items.as_slice()
     }
 
-    /// The item at this place.
+    /// The item at this index.
     pub fn item(&self, at: usize) -> Item
         requires { at < length self.now.items }
         ensures { slice_get self.now.items at ≡ Some result }
@@ -83,7 +83,7 @@ impl Chain {
         self.links[at].before
     }
 
-    /// Makes the room that `extend` needs for these items, and changes nothing else.
+    /// Reserves the capacity that `extend` needs for these items, and changes nothing else.
     pub fn reserve(&mut self, new: &[Item]) -> Result<(), AllocError>
         ensures items { self.new.items ≡ self.old.items }
         ensures ok { OnOk result (HasItemRoom self.new new.now) }
@@ -117,7 +117,7 @@ impl Chain {
         }
     }
 
-    /// Adds an item behind the others, in the room that is there.
+    /// Adds an item after the others, in the capacity that is there.
     fn push(&mut self, item: Item)
         requires a_place { 0 < self.old.item_places }
         requires a_link { 0 < self.old.link_places }
@@ -133,7 +133,7 @@ impl Chain {
         self.heads.set(item.place, self.items.as_slice().len());
     }
 
-    /// Adds these items behind the others, in the room that is there.
+    /// Adds these items after the others, in the capacity that is there.
     pub fn extend(&mut self, new: &[Item])
         requires { HasItemRoom self.old new.now }
         ensures items { self.new.items ≡ self.old.items ++ new.now }
@@ -146,7 +146,7 @@ impl Chain {
         }
     }
 
-    /// Takes the last item off, and keeps its room.
+    /// Takes the last item off, and retains its capacity.
     fn pop(&mut self)
         ensures items { self.new.items ≡ take (length self.old.items - 1) self.old.items }
         ensures item_places { self.new.item_places + length self.new.items
@@ -160,7 +160,7 @@ impl Chain {
         }
     }
 
-    /// Takes off all items behind the first so many, and keeps their room.
+    /// Takes off all items after the first so many, and retains their capacity.
     pub fn truncate(&mut self, len: usize)
         ensures items { self.new.items ≡ take len self.old.items }
         ensures item_places { self.new.item_places + length self.new.items

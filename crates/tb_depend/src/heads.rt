@@ -1,4 +1,4 @@
-//! The last item of each place.
+//! The last item of each location.
 
 ghost use Rattle.std.specs.Prelude.{◌≡◌, true, OnOk, IsOk, if◌then◌else◌};
 ghost use Rattle.tb_model.specs.declared.place.Place.{Place as APlace};
@@ -10,8 +10,8 @@ use std::alloc::{AllocError, Global};
 use tb_cells::{reserve_cell, set_cell};
 use tb_model::{Item, Place};
 
-/// For each place that an item ever named, one above the place of its last item in the list of all
-/// items, and 0 where there is none.
+/// For each location that an item ever named, one above the index of its last item in the list of
+/// all items, and 0 where there is none.
 #[derive(Drop)]
 pub(crate) struct Heads {
     pub cells: IndexMap<u32, usize>,
@@ -37,7 +37,7 @@ impl Heads {
         }
     }
 
-    /// Makes room for the heads of these items' places, and changes nothing else.
+    /// Reserves capacity for the heads of these items' locations, and changes nothing else.
     pub fn reserve(&mut self, items: &[Item]) -> Result<(), AllocError>
         ensures ok { OnOk result (HasHeadsFor self.new items.now) }
         ensures same { AreSameHeads self.old self.new }
@@ -62,7 +62,7 @@ impl Heads {
         }
     }
 
-    /// Sets the head of the place, in the room that is there.
+    /// Sets the head of the location, in the capacity that is there.
     pub fn set(&mut self, place: Place, to: usize)
         requires { has_head self.old place ≡ true }
         ensures set { (p : APlace) → head self.new p ≡ (if is_place place p then to else head self.old p) }

@@ -9,7 +9,7 @@ ghost use Rattle.tb_model.specs.Siblings.{nth_items, child_before, child_apart, 
 ghost use Rattle.tb_depend.specs.Numbers.{numbers_where, AreRising};
 ghost use Rattle.tb_depend.specs.Relations.{items_at, depends, excludes, is_covered, preds_of, apart_of, covered_by, spawned_items};
 
-/// The numbers from 1 that pass a test are listed once each, rising, and no other.
+/// The ordinals from 1 that pass a test are listed once each, rising, and no other.
 #[tactic(auto, using(crate::proofs::NumbersLemmas::rising_where))]
 pub fn numbers()
     ensures listed { (test : ℕ → Bool) (k m : ℕ) →
@@ -29,7 +29,7 @@ pub fn one_more_child()
         take (length (siblings ++ items ∷ []) - 1) (siblings ++ items ∷ []) ≡ siblings }
 {}
 
-/// Where the children are those that a task's own actions generated, they stand to each other as
+/// Where the children are those that a task's own actions generated, they relate to each other as
 /// these actions say.
 #[tactic(auto, using(crate::proofs::RelationsLemmas::length_spawned, crate::proofs::RelationsLemmas::items_spawned, crate::proofs::RelationsLemmas::depends_spawned, crate::proofs::RelationsLemmas::excludes_spawned, crate::proofs::RelationsLemmas::covered_spawned))]
 pub fn children_of_task()
@@ -44,7 +44,7 @@ pub fn children_of_task()
         is_covered (spawned_items acts) items n ≡ child_covered acts items n }
 {}
 
-/// The lists of children that a task's own actions generated have exactly the numbers that these
+/// The lists of children that a task's own actions generated have exactly the ordinals that these
 /// actions relate.
 #[tactic(auto, using(crate::proofs::RelationsLemmas::preds_spawned, crate::proofs::RelationsLemmas::apart_spawned))]
 pub fn lists_of_task()

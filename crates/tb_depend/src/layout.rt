@@ -19,7 +19,7 @@ pub(crate) fn bounds(items: &[Item], ends: &[usize], n: usize) -> (usize, usize)
     (start(items, ends, n - 1), ends[n - 1])
 }
 
-/// The items of the nth child, where the items of each end at its place. There are none where there
+/// The items of the nth child, where the items of each end at its index. There are none where there
 /// is no such child.
 pub(crate) fn row<'a>(items: &'a [Item], ends: &[usize], n: usize) -> &'a [Item]
     requires { AreEnds 0 ends.now (length items.now) }
@@ -29,7 +29,7 @@ pub(crate) fn row<'a>(items: &'a [Item], ends: &[usize], n: usize) -> &'a [Item]
     &items[from..to]
 }
 
-/// Where the items of the child behind the first k begin.
+/// Where the items of the child after the first k begin.
 fn start(items: &[Item], ends: &[usize], k: usize) -> usize
     requires ends { AreEnds 0 ends.now (length items.now) }
     requires there { k < length ends.now }
@@ -53,7 +53,7 @@ fn end_of(ends: &[usize]) -> usize
     }
 }
 
-/// Adds a child with these items behind the others, in the room that is there.
+/// Adds a child with these items after the others, in the capacity that is there.
 pub(crate) fn push_row(chain: &mut Chain, ends: &mut Vec<usize>, new: &[Item])
     requires ends { AreEnds 0 ends.old.items (length chain.old.items) }
     requires a_place { vec_len ends.old < vec_capacity ends.old }
@@ -71,7 +71,7 @@ pub(crate) fn push_row(chain: &mut Chain, ends: &mut Vec<usize>, new: &[Item])
     ends.push_reserved(chain.len());
 }
 
-/// Takes the last child off, and keeps its room.
+/// Takes the last child off, and retains its capacity.
 pub(crate) fn pop_row(chain: &mut Chain, ends: &mut Vec<usize>)
     requires ends { AreEnds 0 ends.old.items (length chain.old.items) }
     ensures rows { rows_from 0 ends.new.items chain.new.items

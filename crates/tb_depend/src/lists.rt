@@ -19,7 +19,7 @@ use tb_model::Item;
 /// The items of all children, and where each child's end.
 #[derive(Drop)]
 pub(crate) struct Lists {
-    // the items of all children, one child's behind another's
+    // the items of all children, one child's after another's
     chain: Chain,
     // where each child's items end
     ends: Vec<usize>,
@@ -40,7 +40,7 @@ impl Model for Lists {
 }
 
 impl Lists {
-    /// Lists of `count` children without items, with room for `room` children in all.
+    /// Lists of `count` children without items, with capacity for `room` children in all.
     #[tactic(auto, using(crate::proofs::BareLemmas::ends_bare, crate::proofs::BareLemmas::rows_bare))]
     pub(crate) fn bare(alloc: Global, count: u32, room: u32) -> Result<Lists, AllocError>
         requires { count ≤ room }
@@ -71,7 +71,7 @@ impl Lists {
         row(self.chain.items(), &self.ends, n)
     }
 
-    /// Makes the room for a child with these items, and changes nothing else.
+    /// Reserves the capacity for a child with these items, and changes nothing else.
     #[tactic(auto, using(crate::proofs::LayoutLemmas::length_rows))]
     pub(crate) fn reserve_add(&mut self, items: &[Item]) -> Result<(), AllocError>
         ensures siblings { self.new.siblings ≡ self.old.siblings }
@@ -85,7 +85,7 @@ impl Lists {
         self.spare.reserve(count)
     }
 
-    /// Adds a child behind the others, in the room that is there.
+    /// Adds a child after the others, in the capacity that is there.
     pub(crate) fn add_reserved(&mut self, items: &[Item])
         requires { HasRoomFor self.old items.now }
         ensures added { self.new.siblings ≡ self.old.siblings ++ items.now ∷ [] }
@@ -96,7 +96,7 @@ impl Lists {
         push_row(&mut self.chain, &mut self.ends, items);
     }
 
-    /// Takes the list for numbers out.
+    /// Takes the list for ordinals out.
     pub(crate) fn take_spare(&mut self, alloc: Global) -> Vec<usize>
         ensures empty { result.items ≡ [] }
         ensures room { vec_capacity result ≡ self.old.number_places }
@@ -105,7 +105,7 @@ impl Lists {
         mem::replace(&mut self.spare, Vec::new(alloc))
     }
 
-    /// Takes the last child off, and keeps its room. Where there is none, nothing changes.
+    /// Takes the last child off, and retains its capacity. Where there is none, nothing changes.
     #[tactic(auto, using(crate::proofs::LayoutLemmas::length_rows))]
     pub(crate) fn drop_last(&mut self)
         ensures siblings { self.new.siblings ≡ take (length self.old.siblings - 1) self.old.siblings }
@@ -132,7 +132,7 @@ impl Lists {
         further_over(&self.chain, &self.ends, items, over)
     }
 
-    /// The children near the nth, in no order, and some of them more than once.
+    /// The nearest children of the nth, in no order, and some of them more than once.
     pub(crate) fn near_numbers(&self, alloc: Global, n: usize) -> Result<Vec<usize>, AllocError>
         ensures { IfOk result (λ near. AreNear self.now.siblings n near.items) }
     {

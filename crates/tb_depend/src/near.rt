@@ -1,6 +1,6 @@
-//! Whether all on which a child depends are over, by those near it: of each storage location that
-//! it names the last items of one kind in front of it, and behind those no other. Where these are
-//! over, so is what they depend on, and so down to the first.
+//! Whether all on which a child depends are over, by its nearest ones: of each storage location
+//! that it names the last items of one kind in front of it, and after those no other. Where these
+//! are over, so is what they depend on, and so down to the first.
 
 ghost use Rattle.std.specs.Prelude.{◌≡◌, ◌<◌, ◌≤◌, ◌+◌, ℕ, IsTrue, Some, ◌↔◌, length, slice_get};
 ghost use Rattle.tb_model.specs.declared.item.Item.{Item as AnItem};
@@ -15,8 +15,8 @@ use crate::over::Over;
 use crate::steps::{comes_behind, comes_behind_all, is_before, is_met};
 use tb_model::{Item, Place};
 
-/// The number of the child whose item stands at this place. Mostly the children have as many items each, so it is tried first
-/// where it is by proportion.
+/// The ordinal of the child whose item is at this index. Mostly the children have as many items
+/// each, so it is tried first where it is by proportion.
 pub(crate) fn child_at(ends: &[usize], at: usize) -> usize
     requires { (len : ℕ) × AreEnds 0 ends.now len }
     ensures { result ≡ child_at ends.now at }
@@ -28,7 +28,8 @@ pub(crate) fn child_at(ends: &[usize], at: usize) -> usize
     ends.partition_point(|end| *end <= at) + 1
 }
 
-/// How many children have their items in front of the place, where all have as many. Any number does.
+/// How many children have their items in front of the index, where all have as many. Any ordinal
+/// does.
 fn proportion(ends: &[usize], at: usize) -> usize {
     match ends.last() {
         Some(last) if *last > 0 => at.saturating_mul(ends.len()) / *last,
@@ -36,7 +37,7 @@ fn proportion(ends: &[usize], at: usize) -> usize {
     }
 }
 
-/// Whether so many children, and no more, have their items in front of the place.
+/// Whether so many children, and no more, have their items in front of the index.
 fn are_in_front(ends: &[usize], count: usize, at: usize) -> bool
     requires { (len : ℕ) × AreEnds 0 ends.now len }
     ensures child { IsTrue result → count + 1 ≡ child_at ends.now at }
@@ -153,7 +154,7 @@ fn those_over<T: Over>(chain: &Chain, ends: &[usize], new: Item, from: usize, ov
 }
 
 /// One above the last of the first `from` items that names the storage location of the item, which
-/// stands behind these.
+/// is after these.
 fn front(chain: &Chain, item: usize, from: usize) -> usize
     requires item { (from ≤ item) × (item < length chain.now.items) }
     ensures within { result ≤ from }
@@ -172,8 +173,8 @@ fn front(chain: &Chain, item: usize, from: usize) -> usize
     at
 }
 
-/// Whether those of the first `from` items that come before the item, which stands behind these,
-/// are over.
+/// Whether those of the first `from` items that come before the item, which is after these, are
+/// over.
 fn item_over<T: Over>(chain: &Chain, ends: &[usize], item: usize, from: usize, over: &T) -> bool
     requires ends { AreEnds 0 ends.now (length chain.now.items) }
     requires item { (from ≤ item) × (item < length chain.now.items) }

@@ -1,5 +1,6 @@
-//! The children near one: of each storage location that it names, the last items of one kind in front
-//! of it that come before it. It depends on these, and by way of them on all on which it depends.
+//! The nearest children of one: of each storage location that it names, the last items of one kind
+//! in front of it that come before it. It depends on these, and by way of them on all on which it
+//! depends.
 
 ghost use Rattle.std.specs.Prelude.{◌≡◌, ◌<◌, ◌≤◌, IfOk, OnOk, IsTrue, length};
 ghost use Rattle.tb_depend.specs.Layout.{AreEnds, rows_from};
@@ -12,7 +13,7 @@ use crate::steps::{is_before, is_met};
 use std::alloc::{AllocError, Global};
 use tb_model::{Item, Place};
 
-/// Whether the item stands between two at each storage location at which these meet. Two of all memory
+/// Whether the item is between two at each storage location at which these meet. Two of all memory
 /// meet where no other item does, too.
 fn parts(mid: Item, new: Item, old: Item) -> bool
     ensures { IsTrue result → IsParted mid new old }
@@ -23,8 +24,8 @@ fn parts(mid: Item, new: Item, old: Item) -> bool
     }
 }
 
-/// Whether one of the items behind the one at this place comes behind it, up to the last one that comes
-/// before the new one, at each storage location at which the two meet.
+/// Whether one of the items after the one at this index comes after it, up to the last one that
+/// comes before the new one, at each storage location at which the two meet.
 fn is_passed(chain: &Chain, new: Item, at: usize, last: usize) -> bool
     requires within { (at < last) × (last ≤ length chain.now.items) }
     requires before { IsLastBefore chain.now.items new last }
@@ -40,7 +41,7 @@ fn is_passed(chain: &Chain, new: Item, at: usize, last: usize) -> bool
     false
 }
 
-/// Adds the children whose items are near the new one, of the first `from` items.
+/// Adds the children whose items are nearest to the new one, of the first `from` items.
 fn add_near(
     chain: &Chain,
     ends: &[usize],
@@ -63,7 +64,7 @@ fn add_near(
     Ok(())
 }
 
-/// The children near the nth, in no order, and some of them more than once.
+/// The nearest children of the nth, in no order, and some of them more than once.
 pub(crate) fn near_numbers(
     alloc: Global,
     chain: &Chain,
@@ -81,7 +82,7 @@ pub(crate) fn near_numbers(
     Ok(near)
 }
 
-/// Whether the number is one of these.
+/// Whether the ordinal is one of these.
 pub(crate) fn is_among(near: &[usize], m: usize) -> bool
     ensures { result ≡ is_among near.now m }
 {

@@ -2,7 +2,7 @@
 
 ghost use Rattle.std.specs.Prelude.{◌≡◌, ℕ, Bool};
 
-/// Says of each child of a task, by its number from 1, whether it is over.
+/// Says of each child of a task, by its ordinal from 1, whether it is over.
 pub trait Over {
     ghost over: { Self → ℕ → Bool };
 

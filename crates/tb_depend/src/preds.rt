@@ -1,11 +1,11 @@
-//! Numbers of siblings.
+//! Ordinals of siblings.
 
 ghost use Rattle.std.specs.Prelude.{◌≡◌};
 ghost use Rattle.tb_depend.specs.Numbers.{AreRising};
 
 use std::marker::Model;
 
-/// Numbers of siblings, rising. The nth child of a task has the number n, from 1.
+/// Ordinals of siblings, rising. The nth child of a task has the ordinal n, from 1.
 #[derive(Drop, Debug)]
 pub struct Preds {
     numbers: Vec<usize>,
@@ -30,7 +30,7 @@ impl Preds {
         Preds { numbers }
     }
 
-    /// The numbers, in order.
+    /// The ordinals, in order.
     pub fn as_slice(&self) -> &[usize]
         ensures numbers { result.now ≡ self.now }
         ensures rising { AreRising 0 result.now }

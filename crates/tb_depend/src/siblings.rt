@@ -73,7 +73,7 @@ impl Siblings {
         }
     }
 
-    /// Whether the nth child depends on the mth. A number that is no child's depends on none.
+    /// Whether the nth child depends on the mth. An ordinal that is no child's depends on none.
     pub fn is_before(&self, m: usize, n: usize) -> bool
         ensures { result ≡ depends self.now.siblings n m }
     {
@@ -96,7 +96,8 @@ impl Siblings {
         items.is_empty() || some_before(items, self.items(n))
     }
 
-    /// Makes the room that `add` needs for a child with these items, and changes nothing else.
+    /// Reserves the capacity that `add` needs for a child with these items, and changes nothing
+    /// else.
     #[tactic(auto, using(crate::proofs::BareLemmas::items_bare))]
     pub fn reserve_add(&mut self, items: &[Item]) -> Result<(), AllocError>
         ensures siblings { self.new.siblings ≡ self.old.siblings }
@@ -117,8 +118,8 @@ impl Siblings {
         Ok(())
     }
 
-    /// Adds a child behind the others, and tells the children on which it depends. With room it
-    /// takes no memory.
+    /// Adds a child after the others, and returns the children on which it depends. With capacity
+    /// it takes no memory.
     #[tactic(auto, using(crate::proofs::BareLemmas::preds_bare))]
     pub fn add(&mut self, items: &[Item]) -> Result<Preds, AllocError>
         ensures added { OnOk result (self.new.siblings ≡ self.old.siblings ++ items.now ∷ []) }
@@ -138,7 +139,7 @@ impl Siblings {
         Ok(self.fill_preds(self.len(), numbers))
     }
 
-    /// Adds a child behind the others, in the room that is there. The cost doesn't depend on how
+    /// Adds a child after the others, in the capacity that is there. The cost doesn't depend on how
     /// many there are.
     #[tactic(auto, using(crate::proofs::BareLemmas::items_bare))]
     pub fn add_reserved(&mut self, items: &[Item])
@@ -154,7 +155,7 @@ impl Siblings {
         }
     }
 
-    /// Takes the last child off, and keeps its room. Where there is none, nothing changes.
+    /// Takes the last child off, and retains its capacity. Where there is none, nothing changes.
     #[tactic(auto, using(crate::proofs::BareLemmas::take_bare, crate::proofs::BareLemmas::frees_bare))]
     pub fn drop_last(&mut self)
         ensures siblings { self.new.siblings ≡ take (length self.old.siblings - 1) self.old.siblings }
@@ -168,7 +169,7 @@ impl Siblings {
         }
     }
 
-    /// Whether all children on which the nth depends are over. Asks only those near it, of each
+    /// Whether all children on which the nth depends are over. Asks only its nearest ones, of each
     /// storage location the last of one kind in front of it; takes no memory.
     #[tactic(auto, using(crate::proofs::BareLemmas::over_bare))]
     pub fn are_preds_over<T: Over>(&self, n: usize, over: &T) -> bool
@@ -182,8 +183,8 @@ impl Siblings {
     }
 
     /// Whether all children are over on which a further child with these items would depend: for a
-    /// `taskwait` with items, all that it covers. Asks those alone that would be near it; takes no
-    /// memory.
+    /// `taskwait` with items, all that it covers. Asks those alone that would be nearest to it;
+    /// takes no memory.
     pub fn are_over_for<T: Over>(&self, items: &[Item], over: &T) -> bool
         ensures { IsClosed self.now.siblings (T.over over.now) →
             IsTrue result ↔ AreOverFor self.now.siblings (T.over over.now) items.now }
@@ -194,7 +195,7 @@ impl Siblings {
         }
     }
 
-    /// The numbers of the children on which the nth depends.
+    /// The ordinals of the children on which the nth depends.
     pub fn preds(&self, n: usize) -> Result<Preds, AllocError>
         ensures { IfOk result (λ preds. preds ≡ preds_of self.now.siblings n) }
     {
@@ -202,10 +203,10 @@ impl Siblings {
         Ok(self.fill_preds(n, numbers))
     }
 
-    /// The numbers of the children near the nth: of each storage location that it names, the last ones
-    /// of one kind in front of it that come before it; an item of all memory counts for every location.
-    /// By way of them it depends on all on which it depends. Each costs a walk over those behind it; a
-    /// start asks by the links of the items, as `are_preds_over` does.
+    /// The ordinals of the nearest children of the nth: of each storage location that it names, the
+    /// last ones of one kind in front of it that come before it; an item of all memory counts for
+    /// every location. By way of them it depends on all on which it depends. Each costs a walk over
+    /// those after it; a start asks by the links of the items, as `are_preds_over` does.
     #[tactic(auto, using(crate::proofs::NumbersLemmas::rising_where))]
     pub fn near(&self, n: usize) -> Result<Preds, AllocError>
         ensures { IfOk result (λ near. AreNear self.now.siblings n near) }
@@ -220,7 +221,7 @@ impl Siblings {
         Ok(Preds::of(numbers))
     }
 
-    /// The children near the nth, in no order, and some of them more than once.
+    /// The nearest children of the nth, in no order, and some of them more than once.
     fn near_numbers(&self, n: usize) -> Result<Vec<usize>, AllocError>
         ensures { IfOk result (λ near. AreNear self.now.siblings n near.items) }
     {
@@ -230,7 +231,7 @@ impl Siblings {
         }
     }
 
-    /// The numbers of the children that the nth excludes, before it and behind it.
+    /// The ordinals of the children that the nth excludes, before it and after it.
     #[tactic(auto, using(crate::proofs::NumbersLemmas::rising_where))]
     pub fn apart(&self, n: usize) -> Result<Preds, AllocError>
         ensures { IfOk result (λ apart. apart ≡ apart_of self.now.siblings n) }
@@ -244,7 +245,7 @@ impl Siblings {
         Ok(Preds::of(numbers))
     }
 
-    /// The numbers of the children that a `taskwait` with these items waits for: without items all
+    /// The ordinals of the children that a `taskwait` with these items waits for: without items all
     /// children.
     #[tactic(auto, using(crate::proofs::NumbersLemmas::rising_where))]
     pub fn covered(&self, items: &[Item]) -> Result<Preds, AllocError>
@@ -259,7 +260,7 @@ impl Siblings {
         Ok(Preds::of(numbers))
     }
 
-    /// The numbers of the children on which the nth depends, in a list that has room for them.
+    /// The ordinals of the children on which the nth depends, in a list that has capacity for them.
     #[tactic(auto, using(crate::proofs::NumbersLemmas::rising_where))]
     fn fill_preds(&self, n: usize, mut numbers: Vec<usize>) -> Preds
         requires empty { numbers.items ≡ [] }

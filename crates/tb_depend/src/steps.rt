@@ -9,7 +9,7 @@ ghost use Rattle.tb_depend.specs.Chains.{is_place, is_met, IsLast};
 use crate::chain::Chain;
 use tb_model::{Item, Kind, Place};
 
-/// Whether a new item of this kind comes behind an earlier one of that kind: always, but for two of
+/// Whether a new item of this kind comes after an earlier one of that kind: always, but for two of
 /// one kind that may run in any order.
 pub(crate) fn comes_behind(new: Kind, old: Kind) -> bool
     ensures { result ≡ is_before (relation new old) }
@@ -17,14 +17,14 @@ pub(crate) fn comes_behind(new: Kind, old: Kind) -> bool
     new != old || matches!(new, Kind::Out | Kind::Inout)
 }
 
-/// Whether an item of this kind comes behind every earlier one of its storage location.
+/// Whether an item of this kind comes after every earlier one of its storage location.
 pub(crate) fn comes_behind_all(kind: Kind) -> bool
     ensures { result ≡ is_before (relation kind kind) }
 {
     comes_behind(kind, kind)
 }
 
-/// Whether the two are the very same place.
+/// Whether the two are the very same location.
 fn is_place(p: Place, q: Place) -> bool
     ensures { result ≡ is_place p q }
 {

@@ -88,7 +88,7 @@ eight_text (a ∷ b ∷ c ∷ d ∷ e ∷ f ∷ g ∷ []) l all = absurd (omega 
 eight_text (a ∷ b ∷ c ∷ d ∷ e ∷ f ∷ g ∷ h ∷ []) l all = sym (levels_dotted (a ∷ b ∷ c ∷ d ∷ e ∷ f ∷ g ∷ h ∷ []) all)
 eight_text (a ∷ b ∷ c ∷ d ∷ e ∷ f ∷ g ∷ h ∷ i ∷ ns) l all = absurd (omega arith)
 
--- a text of k bytes that is written at a place
+-- a text of k bytes that is written at an index
 pub text_at : (at k : ℕ) (bytes text whole : List ℕ) → text ≡ whole → length text ≡ k → at + k ≤ length bytes
     → drop at (put_mid at (at + k - at) bytes (put_chunk 0 (mid_of at (at + k - at) bytes) text)) ≡ whole ++ drop (at + k) bytes
 text_at at k bytes text whole is long room =
@@ -99,7 +99,7 @@ text_at at k bytes text whole is long room =
     ∙ drop-append_seam (take at bytes) (whole ++ post_of at k bytes)
     ∙ ap (λ x. whole ++ x) (drop-drop k at bytes))
 
--- the levels in the middle stand in both texts
+-- the levels in the middle are in both texts
 levels_meet : (front middle rest old : List ℕ) → levels_text rest ++ drop (length (levels_text middle)) (levels_text (front ++ middle) ++ old) ≡ levels_text (front ++ rest) ++ old
 levels_meet front middle rest old =
     let behind : levels_text (front ++ middle) ++ old ≡ levels_text middle ++ (levels_text front ++ old) = ap (λ x. x ++ old) (levels_both front middle) ∙ append_assoc (levels_text middle) (levels_text front) old in
@@ -117,7 +117,7 @@ first_parts c ns some few =
     let e : c ≡ length (take k ns) + (c - k) = omega (arith, front, some, few) in
     ap (λ n. take n ns) e ∙ ap (λ l. take (length (take k ns) + (c - k)) l) (sym (take-append-drop k ns)) ∙ take-append-add (take k ns) (drop k ns) (c - k)
 
--- the last c numbers, as a part of a slice tells them
+-- the last c numbers, as a part of a slice has them
 last_part : (c : ℕ) (ns : List ℕ) → c ≤ length ns → take (length ns - (length ns - c)) (drop (length ns - c) ns) ≡ drop (length ns - c) ns
 last_part c ns some = take_all (length ns - (length ns - c)) (drop (length ns - c) ns) (omega (arith, length-drop (length ns - c) ns, some))
 

@@ -59,7 +59,7 @@ module _ (a b : Option (List ℕ)) (held start numbers rest front last bytes : L
       (ap (λ l. start ++ levels_text l) left ∙ ap (λ l. start ++ l) (levels_both front (last ++ s.0)) ∙ sym (append_assoc start (levels_text (last ++ s.0)) (levels_text front))
       ∙ ap (λ l. l ++ levels_text front) (sym next))
 
--- a list from a place on, as a slice shows it
+-- a list from an index on, as a slice shows it
 cut_at : (rest : List ℕ) (at : ℕ) → rest ≡ take at rest ++ take (length rest - at) (drop at rest)
 cut_at rest at = sym (ap (λ l. take at rest ++ l) (take_rest rest at) ∙ take-append-drop at rest)
 
@@ -70,7 +70,7 @@ cut_last_at (x ∷ []) (suc k) d is = absurd (omega (arith, is))
 cut_last_at (x ∷ y ∷ rest) zero d is = absurd (omega (arith, is))
 cut_last_at (x ∷ y ∷ rest) (suc k) d is = ap (λ l. x ∷ l) (cut_last_at (y ∷ rest) k d (omega (arith, is)))
 
--- the numbers of the rest from a place on, or its last one
+-- the numbers of the rest from an index on, or its last one
 module _ (a b : Option (List ℕ)) (held start numbers rest : List ℕ) (s : Spelled a b held start numbers rest) where
   module _ (at : ℕ) (bytes : List ℕ) (is : bytes ≡ levels_text (take (length rest - at) (drop at rest))) where
     pub some_more : (c : Option (List ℕ)) (more : List ℕ) → Told b c more (λ all. all ≡ held ++ bytes) → Spelled a c more start numbers (take at rest)

@@ -1,4 +1,4 @@
--- What stands in a short text after something was put in front of it.
+-- What is in a short text after something was put in front of it.
 use Rattle.std.proofs.Common.{◌≡◌, ℕ, ◌+◌, ◌-◌, ◌^◌, ◌<◌, ◌≤◌, List, ◌++◌, length, length-append, [], Option, Some, None, IfSome, append_assoc, zero, suc, take, drop, refl, ap, ap₂, sym, ◌∙◌, arith, subst, ℤ, pos, negsuc, FitsSigned, w64, false, int_le, unsigned_abs, set, ◌∷◌}
 use Rattle.std.proofs.Math.Seq.{drop-append_seam}
 use Rattle.std.proofs.lemmas.List.{length-take-le, drop-drop, drop-set, drop_all}

@@ -15,7 +15,7 @@ told_nothing a rest IsText h = record { front = []; wrote = appends_nil a; whole
 pub told_on : (a b : Option (List ℕ)) (rest more : List ℕ) (IsText IsMore : List ℕ → Type 0) → Told a b rest IsText → ((front : List ℕ) → IsText (front ++ rest) → IsMore (front ++ more)) → Told a b more IsMore
 told_on a b rest more IsText IsMore t f = record { front = t.front; wrote = t.wrote; whole = f t.front t.whole }
 
--- a line that is added to a text is added to the text behind a front
+-- a line that is added to a text is added to the text after a front
 pub longer : (front text line more : List ℕ) → more ≡ text ++ line → front ++ more ≡ (front ++ text) ++ line
 longer front text line more e = ap (λ l. front ++ l) e ∙ sym (append_assoc front text line)
 

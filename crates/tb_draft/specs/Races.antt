@@ -10,7 +10,7 @@ abbrev pub conflict_text : Conflict → List ℕ
 conflict_text (Cell c) = codes "cell " ++ decimal c
 conflict_text Print = codes "print"
 
--- exclusion keeps the two from being under way at once
+-- exclusion forbids the two to be under way at once
 abbrev pub apart_text : Bool → List ℕ
 apart_text true = codes " apart"
 apart_text false = []

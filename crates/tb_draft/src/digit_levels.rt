@@ -40,7 +40,7 @@ fn are_four_digits(numbers: &[u8]) -> bool
     }
 }
 
-/// Puts eight levels at the place, the last one first.
+/// Puts eight levels at the index, the last one first.
 #[inline(always)]
 fn put_eight(bytes: &mut [u8; ROOM], at: usize, numbers: &[u8])
     requires numbers { (length numbers.now ≡ 8) × (list_all is_digit numbers.now ≡ true) }
@@ -59,7 +59,7 @@ fn put_eight(bytes: &mut [u8; ROOM], at: usize, numbers: &[u8])
     text.copy_to_slice(&mut bytes[at..at + 16]);
 }
 
-/// Puts four levels at the place, the last one first.
+/// Puts four levels at the index, the last one first.
 #[inline(always)]
 fn put_four(bytes: &mut [u8; ROOM], at: usize, numbers: &[u8])
     requires numbers { (length numbers.now ≡ 4) × (list_all is_digit numbers.now ≡ true) }
@@ -75,8 +75,8 @@ fn put_four(bytes: &mut [u8; ROOM], at: usize, numbers: &[u8])
     text.copy_to_slice(&mut bytes[at..at + 8]);
 }
 
-/// Puts levels in front of the place, the last of these first, if they have one digit each and are four to sixteen, and
-/// tells whether they were. Some may be put twice, so that there is no loop.
+/// Puts levels in front of the index, the last of these first, if they have one digit each and are
+/// four to sixteen, and returns whether they were. Some may be put twice, so that there is no loop.
 #[inline(always)]
 pub(crate) fn put_digit_levels(bytes: &mut [u8; ROOM], end: usize, numbers: &[u8]) -> bool
     requires { (length numbers.now * 2 ≤ end) × (end ≤ 96) }

@@ -19,7 +19,7 @@ fn put_pair(bytes: &mut [u8; ROOM], at: usize, pair: u32)
     bytes[at + 1] = ones;
 }
 
-/// Puts the number in front of the place, and tells where it begins.
+/// Puts the number in front of the index, and returns where it begins.
 #[inline(always)]
 pub(crate) fn put_digits(bytes: &mut [u8; ROOM], end: usize, n: u32) -> usize
     requires { (length (decimal n) ≤ end) × (end ≤ 96) }
@@ -51,7 +51,7 @@ fn put_first(bytes: &mut [u8; ROOM], end: usize, n: u32) -> usize
     end - 2
 }
 
-/// Puts a level of one digit in front of the place, with its dot.
+/// Puts a level of one digit in front of the index, with its dot.
 #[inline(always)]
 pub(crate) fn put_digit_level(bytes: &mut [u8; ROOM], end: usize, n: u8)
     requires { (n < 10) × (2 ≤ end) × (end ≤ 96) }

@@ -19,8 +19,9 @@ use tb_model::{TaskName, append_number, append_signed};
 /// The most long names that wait: as text they have at least as many bytes.
 const NAMES: usize = 256;
 
-/// A text that is still to be written. A name of more than 128 levels stands in it as what names share, and is spelled as
-/// it is written: so a text of many deep names takes memory for each of their lines, and not for each of their levels.
+/// A text that is still to be written. A name of more than 128 levels is in it as what names share,
+/// and is spelled as it is written: so a text of many deep names takes memory for each of their
+/// lines, and not for each of their levels.
 #[derive(Drop)]
 pub struct Draft {
     alloc: Global,
@@ -113,7 +114,8 @@ impl Draft {
         Ok(())
     }
 
-    /// Appends the name of the kth step of a task, as `0.1#3`. Where memory runs out a part of it may stand.
+    /// Appends the name of the kth step of a task, as `0.1#3`. Where memory runs out a part of it
+    /// may stay.
     #[inline(always)]
     pub fn push_step(&mut self, task: &TaskName, k: u32) -> Result<(), AllocError>
         ensures { OnOk result (self.new ≡ self.old ++ step_id_text (record { task = task.now; k = k })) }
@@ -135,7 +137,7 @@ impl Draft {
         }
     }
 
-    /// Puts another draft in front of all. Where memory runs out nothing is known of what stands.
+    /// Puts another draft in front of all. Where memory runs out nothing is known of what is there.
     pub fn prepend_draft(&mut self, front: Draft) -> Result<(), AllocError>
         ensures { OnOk result (self.new ≡ front ++ self.old) }
     {
@@ -165,7 +167,7 @@ impl Draft {
         Ok(())
     }
 
-    /// Writes the text where much of it waits, and empties it then; its room stays.
+    /// Writes the text where much of it waits, and empties it then; its capacity stays.
     #[inline(always)]
     pub fn pass_on<K: Sink>(&mut self, sink: &mut K) -> Result<(), Failed>
         requires { K.failures sink.old < 2 ^ 64 - 1 }

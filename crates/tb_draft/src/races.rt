@@ -9,7 +9,7 @@ use std::alloc::AllocError;
 use tb_model::StepId;
 use tb_races::{Conflict, Race};
 
-/// Appends that exclusion keeps two steps from being under way at once, where it does.
+/// Appends that exclusion forbids two steps to be under way at once, where it does.
 fn push_apart(text: &mut Draft, apart: bool) -> Result<(), AllocError>
     ensures { OnOk result (text.new ≡ text.old ++ apart_text apart) }
 {
@@ -20,7 +20,7 @@ fn push_apart(text: &mut Draft, apart: bool) -> Result<(), AllocError>
     }
 }
 
-/// Appends what the two race over, and whether exclusion keeps them apart.
+/// Appends what the two race over, and whether exclusion separates them.
 fn push_subject(text: &mut Draft, race: &Race) -> Result<(), AllocError>
     ensures { OnOk result (text.new ≡ text.old
         ++ (conflict_text race.now.conflict ++ apart_text race.now.apart)) }
@@ -30,7 +30,7 @@ fn push_subject(text: &mut Draft, race: &Race) -> Result<(), AllocError>
 }
 
 impl Draft {
-    /// Appends what two steps share. Where memory runs out a part of it may stand.
+    /// Appends what two steps share. Where memory runs out a part of it may stay.
     pub fn push_conflict(&mut self, conflict: Conflict) -> Result<(), AllocError>
         ensures { OnOk result (self.new ≡ self.old ++ conflict_text conflict) }
     {
@@ -43,7 +43,7 @@ impl Draft {
         }
     }
 
-    /// Appends the names of two steps. Where memory runs out a part of them may stand.
+    /// Appends the names of two steps. Where memory runs out a part of them may stay.
     pub fn push_pair(&mut self, first: &StepId, second: &StepId) -> Result<(), AllocError>
         ensures { OnOk result (self.new ≡ self.old
             ++ (step_id_text first.now ++ codes " " ++ step_id_text second.now)) }
@@ -53,8 +53,8 @@ impl Draft {
         self.push_step(&second.task, second.k)
     }
 
-    /// Appends the line of a race, as `0.1#2 0.2#2 cell 7 apart`. Where memory runs out a part of it
-    /// may stand.
+    /// Appends the line of a race, as `0.1#2 0.2#2 cell 7 apart`. Where memory runs out a part of
+    /// it may stay.
     pub fn push_race(&mut self, race: &Race) -> Result<(), AllocError>
         ensures { OnOk result (self.new ≡ self.old ++ race_line race.now) }
     {

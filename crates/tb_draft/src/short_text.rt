@@ -54,7 +54,7 @@ impl ShortText {
         unsafe { str::from_utf8_unchecked(&self.bytes[self.at..]) }
     }
 
-    /// Puts a text in front, if there is room.
+    /// Puts a text in front, if there is capacity.
     #[inline(always)]
     pub fn prepend(&mut self, text: &str) -> Option<()>
         ensures some { IfSome result (λ _. self.new ≡ text.now ++ self.old) }
@@ -71,7 +71,7 @@ impl ShortText {
         Some(())
     }
 
-    /// Puts a number in front, in decimal, if there is room for ten digits.
+    /// Puts a number in front, in decimal, if there is capacity for ten digits.
     #[inline(always)]
     pub fn prepend_number(&mut self, n: u32) -> Option<()>
         ensures some { IfSome result (λ _. self.new ≡ decimal n ++ self.old) }
@@ -85,7 +85,8 @@ impl ShortText {
         Some(())
     }
 
-    /// Puts a number in front, in decimal, with a minus where it is below zero, if there is room for twenty characters.
+    /// Puts a number in front, in decimal, with a minus where it is below zero, if there is
+    /// capacity for twenty characters.
     #[inline(always)]
     pub fn prepend_signed(&mut self, n: i64) -> Option<()>
         ensures some { IfSome result (λ _. self.new ≡ signed_decimal n ++ self.old) }
@@ -121,7 +122,8 @@ impl ShortText {
         Some(())
     }
 
-    /// Puts levels in front, the last of these first. Some of them may stand where there is no room.
+    /// Puts levels in front, the last of these first. Some of them may stay where there is no
+    /// capacity.
     #[inline(always)]
     fn prepend_levels(&mut self, numbers: &[u32]) -> Option<()>
         ensures some { IfSome result (λ _. self.new ≡ levels_text numbers.now ++ self.old) }
@@ -133,8 +135,8 @@ impl ShortText {
         Some(())
     }
 
-    /// Puts levels that take a byte each in front, the last of these first. Some of them may stand
-    /// where there is no room.
+    /// Puts levels that take a byte each in front, the last of these first. Some of them may stay
+    /// where there is no capacity.
     // out of line: a line with a shorter name doesn't pay for its stack frame
     #[inline(never)]
     fn prepend_small_levels(&mut self, numbers: &[u8]) -> Option<()>
@@ -151,7 +153,7 @@ impl ShortText {
     }
 
     /// Puts levels of one digit each in front, all of them or none, and returns which: none where
-    /// one has more digits, where they are too few, and where there is no room.
+    /// one has more digits, where they are too few, and where there is no capacity.
     #[inline(always)]
     fn prepend_digits(&mut self, numbers: &[u8]) -> bool
         ensures { self.new ≡ (if result then levels_text numbers.now ++ self.old else self.old) }
@@ -167,7 +169,8 @@ impl ShortText {
         put
     }
 
-    /// Puts levels in front, four at once, as far as they have one digit each and there is room. Returns the others.
+    /// Puts levels in front, four at once, as far as they have one digit each and there is
+    /// capacity. Returns the others.
     #[inline(always)]
     fn prepend_fours<'a>(&mut self, numbers: &'a [u8]) -> &'a [u8]
         ensures { levels_text result.now ++ self.new ≡ levels_text numbers.now ++ self.old }
@@ -185,7 +188,7 @@ impl ShortText {
         left
     }
 
-    /// Puts four levels of one digit each in front, the last of these first, if there is room.
+    /// Puts four levels of one digit each in front, the last of these first, if there is capacity.
     #[inline(always)]
     fn prepend_four(&mut self, a: u8, b: u8, c: u8, d: u8) -> Option<()>
         requires { (a < 10) × (b < 10) × (c < 10) × (d < 10) }
@@ -203,8 +206,8 @@ impl ShortText {
         Some(())
     }
 
-    /// Puts a name in front, if it has 16 levels at most and there is room for ten digits of each. Some levels may stand
-    /// where there isn't.
+    /// Puts a name in front, if it has 16 levels at most and there is capacity for ten digits of
+    /// each. Some levels may stay where there isn't.
     #[inline(always)]
     pub fn prepend_name(&mut self, name: &TaskName) -> Option<()>
         ensures some { IfSome result (λ _. self.new ≡ name_text name.now ++ self.old) }

@@ -24,7 +24,7 @@ fn put_level<K: Sink>(sink: &mut K, waiting: &mut ArrayVec<u8, ROOM>, n: u32) ->
     Ok(())
 }
 
-/// Puts the levels of these numbers, of which the last comes first.
+/// Puts the levels of these ordinals, of which the last comes first.
 fn put_levels<K: Sink>(
     sink: &mut K,
     waiting: &mut ArrayVec<u8, ROOM>,

@@ -9,7 +9,8 @@ use tb_lines::{Failed, Sink, write_whole};
 /// The most bytes that wait, so a text of up to as many is one write.
 pub(crate) const ROOM: usize = 65536;
 
-/// Puts the bytes after those that wait, which are written first where there is no room for more.
+/// Puts the bytes after those that wait, which are written first where there is no capacity for
+/// more.
 pub(crate) fn put<K: Sink>(
     sink: &mut K,
     waiting: &mut ArrayVec<u8, ROOM>,

@@ -1,4 +1,4 @@
--- Tasks exclude each other where one takes a place that an item of the other meets.
+-- Tasks exclude each other where one takes a location that an item of the other meets.
 use Rattle.std.proofs.Common.{◌≡◌, ◌≢◌, ℕ, List, [], ◌∷◌, Bool, true, false, not, ◌&&◌, ◌||◌, ⊎_elim, refl, sym, ap, ◌∙◌, subst, nat_lt, nat_eq, arith, eqb-true, eq-eqb, IsTrue, IsFalse}
 use Rattle.std.specs.Prelude.{◌↔◌}
 use Rattle.std.specs.List.{list_any}
@@ -18,7 +18,7 @@ use Rattle.tb_model.proofs.StateLemmas.{exclusion}
 use Rattle.tb_excl.specs.Holders.{Holders, is_exclusive, is_place, takes, excludes, ExcludesTask}
 use Rattle.tb_excl.specs.Histories.{is_held, AreHolders}
 
--- ---- kinds and places
+-- ---- kinds and locations
 
 both_apart : (a b : Kind) → is_exclusive a ≡ true → is_exclusive b ≡ true → is_apart (relation a b) ≡ true
 both_apart Mutexinoutset Mutexinoutset p q = refl
@@ -112,7 +112,7 @@ taken_met new old place t e =
     old t)
     new e
 
--- two tasks are apart where one takes a place that an item of the other meets
+-- two tasks exclude each other where one takes a location that an item of the other meets
 pub apart_by_place : (new old : List Item) → IsTrue (some_meet is_apart new old) ↔ TakesMet new old
 apart_by_place new old = (
   λ h. place_met new old (any_swap (meets is_apart) new old h),
@@ -137,7 +137,7 @@ siblings_apart H p m n d h = by_order (nat_lt m n) refl
         let l : nat_lt n m ≡ true = grind (arith, nat_tests) in
         or_right elder younger (and_from (is_elder (n ∷ p) (m ∷ p)) _ (and_from (nat_lt n m) (same_name p p) l (same_refl p)) (meet_back (items_of (n ∷ p) H) (items_of (m ∷ p) H) h))
 
--- what is apart from a child is another child of the same task
+-- what excludes a child is another child of the same task
 apart_sibling : (H : History) (u : Name) (n : ℕ) (p : Name) → apart H u (n ∷ p) ≡ true → (m : ℕ) × (u ≡ m ∷ p) × (some_meet is_apart (items_of (n ∷ p) H) (items_of u H) ≡ true)
 apart_sibling H [] n p h = absurd (false≢true h)
 apart_sibling H (m ∷ q) n p h =
@@ -189,7 +189,7 @@ two_hold cells H p q r m n l s d x y =
     ⊎_elim (λ e. both_ways (list_any (ends (m ∷ p)) H) x.alive e) (λ e. both_ways (list_any (ends (n ∷ p)) H) y.alive e)
     (exclusion cells H (m ∷ p) (n ∷ p) l b x.begun y.begun)
 
--- so two places that are one storage location have one holder
+-- two locations that are one storage location have one holder
 pub one_of_both : (cells : Cells) (H : History) (p : Name) (q r : Place) (m n : ℕ) → Legal cells H → IsTrue (same_place q r) → IsTrue (is_held H p q m) → IsTrue (is_held H p r n) → m ≡ n
 one_of_both cells H p q r m n l s a b = by_number (nat_eq m n) refl
   where
@@ -198,7 +198,7 @@ one_of_both cells H p q r m n l s a b = by_number (nat_eq m n) refl
     by_number false e =
         absurd (two_hold cells H p q r m n l s (λ z. both_ways (nat_eq m n) e (eq-eqb m n z)) (holds H p q m a) (holds H p r n b))
 
--- a place has at most one holder
+-- a location has at most one holder
 pub one_holder : (cells : Cells) (H : History) (p : Name) (place : Place) (m n : ℕ) → Legal cells H → IsTrue (is_held H p place m) → IsTrue (is_held H p place n) → m ≡ n
 one_holder cells H p place m n l = one_of_both cells H p place place m n l (same_itself place)
 

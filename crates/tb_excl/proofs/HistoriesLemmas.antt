@@ -34,7 +34,7 @@ HoldAs H p h = (place : Place) (n : ℕ) → (holder h place ≡ Some n) ↔ IsT
 
 module _ (H G : History) (p : Name) (k : ℕ) (items : List Item) (g : Gains H G p k items) (one : (place : Place) (m n : ℕ) → is_held G p place m ≡ true → is_held G p place n ≡ true → m ≡ n)
     (old new : Holders) where
-  -- a place that the items don't take is held by the same child in both
+  -- a location that the items don't take is held by the same child in both
   there : (place : Place) (n : ℕ) → takes items place ≡ false → is_held G p place n ≡ is_held H p place n
   there place n t = by_number (nat_eq n k) refl
     where
@@ -141,7 +141,7 @@ starting cells H v p n l s =
       before = λ place. ap (λ b. b && (not (list_any (ends (n ∷ p)) H) && takes (items_of (n ∷ p) H) place)) not_begun;
     }
 
--- the holders behind a start, and behind its undo
+-- the holders after a start, and after its undo
 pub start : (cells : Cells) (H : History) (v : Event) (p : Name) (n : ℕ) (old new : Holders) → Legal cells (v ∷ H) → IsTrue (starts (n ∷ p) v) → AreHolders H p old → IsSet old (items_of (n ∷ p) H) (Some n) new → HasRoomFor new (items_of (n ∷ p) H) → KeepsRoom old new → AreHolders (v ∷ H) p new
 start cells H v p n old new l s a set has keeps = record {
   parent = keeps.parent ∙ a.parent;
@@ -219,7 +219,7 @@ end_started : (v : Event) (H : History) (t : Name) → is_end v.action ≡ true 
 end_started v H t e b =
     ⊎_elim (λ s. absurd (both_ways (is_start v.action) (end_starts v.action e) (and_parts (is_of t v) (is_start v.action) s).1)) (λ s. s) (or_cases (starts t v) (list_any (starts t) H) b)
 
--- the holders behind an end, and behind its undo
+-- the holders after an end, and after its undo
 pub end : (cells : Cells) (H : History) (v : Event) (p : Name) (n : ℕ) (old new : Holders) → Legal cells (v ∷ H) → IsTrue (ends (n ∷ p) v) → AreHolders H p old → IsSet old (items_of (n ∷ p) H) None new → KeepsRoom old new → AreHolders (v ∷ H) p new
 end cells H v p n old new l s a set keeps = record {
   parent = keeps.parent ∙ a.parent;
@@ -243,7 +243,7 @@ end_back cells H v p n old new l s a set keeps = record {
       (kept_room old new (items_of (m ∷ p) (v ∷ H)) keeps (a.room m (or_right (starts (m ∷ p) v) _ b)));
 }
 
--- the undo of an end has its room
+-- the undo of an end has its capacity
 pub end_room : (cells : Cells) (H : History) (v : Event) (p : Name) (n : ℕ) (h : Holders) → Legal cells (v ∷ H) → IsTrue (ends (n ∷ p) v) → AreHolders (v ∷ H) p h → HasRoomFor h (items_of (n ∷ p) H)
 end_room cells H v p n h l s a =
     subst (HasRoomFor h) (ap (λ i. i ++ items_of (n ∷ p) H) (end_items (n ∷ p) v.action (and_parts (is_of (n ∷ p) v) (is_end v.action) s).1))

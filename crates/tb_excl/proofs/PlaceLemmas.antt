@@ -1,4 +1,4 @@
--- One place that is written.
+-- One location that is written.
 use Rattle.std.proofs.Common.{◌≡◌, ◌<◌, ℕ, List, Bool, true, false, cond, Option, Some, None, option_map, sym, ap, ◌∙◌, nat_eq, unwrap_or}
 use Rattle.std.specs.Map.{lookup}
 use Rattle.tb_model.specs.declared.place.Place.TheVariants.{Cell, All}
@@ -8,7 +8,7 @@ use Rattle.tb_excl.specs.Search.{AreFromOne, seen}
 abbrev Cells : Type 0
 Cells = List (ℕ × Option ℕ)
 
--- the cell's holder changes, where the cell has a place
+-- the cell's holder changes, where the cell has an index
 abbrev pub SetsCell : Cells → ℕ → Option ℕ → Cells → Type 0
 SetsCell old cell to new =
     (c : ℕ) → lookup (nat_eq c) new ≡ cond (nat_eq cell c) (option_map (λ _. to) (lookup (nat_eq c) old)) (lookup (nat_eq c) old)

@@ -1,4 +1,4 @@
--- Items that are given room, or set, one after the other.
+-- Items that are given capacity, or set, one after the other.
 use Rattle.std.proofs.Common.{◌≡◌, ℕ, ◌+◌, add-one, List, [], ◌∷◌, Bool, true, false, cond, ◌&&◌, ◌||◌, Option, refl, sym, ap, ◌∙◌, subst, zero, suc, arith, ◌<◌, length, drop, get_or, drop-cons}
 use Rattle.std.proofs.lemmas.Bool.{or_left, or_right}
 use Rattle.tb_model.specs.declared.place.Place.{Place}
@@ -38,7 +38,7 @@ set_step start old new items rest i to l s p =
     turn false true h = refl
     turn false false h = refl
 
--- ---- room
+-- ---- capacity
 
 pub first_room : (s : Holders) (i : Item) (rest : List Item) → HasRoomFor s (i ∷ rest) → HasRoomFor s (i ∷ [])
 first_room s i rest h p t = h p (part (is_exclusive i.kind && is_place i.place p) (takes rest p) t)
@@ -59,7 +59,7 @@ keeps_along a b c x y = record { parent = y.parent ∙ x.parent; room = λ p k. 
 pub keeps_all : (a : Holders) → KeepsRoom a a
 keeps_all a = record { parent = refl; room = λ p k. k }
 
--- the items in front of the rest have their room
+-- the items in front of the rest have their capacity
 abbrev pub AreDone : Holders → List Item → List Item → Type 0
 AreDone s items rest = (p : Place) → takes items p ≡ true → takes rest p ≡ false → has_room s p ≡ true
 

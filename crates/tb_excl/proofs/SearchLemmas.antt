@@ -42,7 +42,7 @@ lesser_least P Q (Some m) (Some n) x y = pick (nat_lt n m) refl
           (λ q. let l = y.least k q in let s : n ≡ l.0 = cc in (m, refl, grind (arith, nat_tests, l.2))) h;
     }
 
--- the least number with a property is the least with an equal property
+-- the least ordinal with a property is the least with an equal property
 pub least_by : (P Q : ℕ → Type 0) (o : Option ℕ) → ((n : ℕ) → P n → Q n) → ((n : ℕ) → Q n → P n) → IsLeastNumber P o → IsLeastNumber Q o
 least_by P Q o to from x = record { found = λ n e. to n (x.found n e); least = λ n q. x.least n (from n q) }
 
@@ -131,7 +131,7 @@ least_holder_is_least h (i ∷ items) = at (least_holder_is_least h items) (is_e
 
 -- ---- by name
 
--- the child of the least number has the least name
+-- the child of the least ordinal has the least name
 pub least_child : (t : Name) (P : ℕ → Type 0) (o : Option ℕ) → IsLeastNumber P o → IsLeastName (λ u. (n : ℕ) × (u ≡ child t n) × P n) (option_map (child t) o)
 least_child t P None x = record { found = λ u e. cc; least = λ u h. absurd (none_least P x h.0 h.2) }
 least_child t P (Some m) x = record {

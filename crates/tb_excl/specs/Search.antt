@@ -30,7 +30,7 @@ abbrev pub least_held : Holders → List ℕ → Option ℕ
 least_held holders [] = None
 least_held holders (c ∷ cells) = lesser (holder holders (Cell c)) (least_held holders cells)
 
--- the least holder of a place that an item of this place meets
+-- the least holder of a location that an item of this location meets
 abbrev pub holder_at : Holders → List ℕ → Place → Option ℕ
 holder_at holders cells (Cell c) = lesser (holder holders (Cell c)) holders.all
 holder_at holders cells All = lesser (least_held holders cells) holders.all

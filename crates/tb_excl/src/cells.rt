@@ -8,7 +8,7 @@ use std::alloc::{AllocError, Global};
 use std::marker::Model;
 use tb_cells::{reserve_cell, set_cell};
 
-/// Each cell that was ever taken, with the child that holds it. They stand on the heap, where one was
+/// Each cell that was ever taken, with the child that holds it. They are on the heap, where one was
 /// ever taken: the children of most tasks take none.
 #[derive(Drop)]
 pub(crate) struct Cells {
@@ -43,7 +43,7 @@ impl Cells {
         }
     }
 
-    /// The cell at the place, with its holder.
+    /// The cell at the index, with its holder.
     pub(crate) fn at(&self, place: usize) -> Option<(u32, Option<u32>)>
         ensures { result ≡ slice_get self.now place }
     {
@@ -66,7 +66,7 @@ impl Cells {
         }
     }
 
-    /// Makes room for a holder of the cell.
+    /// Reserves capacity for a holder of the cell.
     pub(crate) fn reserve(&mut self, cell: u32) -> Result<(), AllocError>
         ensures ok { OnOk result (is_some (lookup (nat_eq cell) self.new) ≡ true) }
         ensures same { (c : ℕ) → unwrap_or (lookup (nat_eq c) self.new) None
@@ -84,7 +84,7 @@ impl Cells {
         Ok(())
     }
 
-    /// Sets the cell's holder, where the cell has room.
+    /// Sets the cell's holder, where the cell has capacity.
     pub(crate) fn set(&mut self, cell: u32, to: Option<u32>)
         ensures { (c : ℕ) → lookup (nat_eq c) self.new
             ≡ (if nat_eq cell c then option_map (λ _. to) (lookup (nat_eq c) self.old) else lookup (nat_eq c) self.old) }

@@ -33,7 +33,7 @@ impl Model for Holders {
 }
 
 impl Holders {
-    /// The children of this task. No place is held.
+    /// The children of this task. No location is held.
     pub fn new(alloc: Global, parent: TaskName) -> Holders
         ensures parent { result.parent ≡ parent }
         ensures free { (p : APlace) → holder result p ≡ None }
@@ -52,7 +52,7 @@ impl Holders {
         &self.parent
     }
 
-    /// Makes the room that `take` needs, and changes nothing else.
+    /// Reserves the capacity that `take` needs, and changes nothing else.
     pub fn reserve_take(&mut self, _child: u32, items: &[Item]) -> Result<(), AllocError>
         ensures ok { OnOk result (HasRoomFor self.new items.now) }
         ensures holders { IsSame self.old self.new }
@@ -65,7 +65,7 @@ impl Holders {
         Ok(())
     }
 
-    /// The child starts, and holds what its items take. With room it takes no memory.
+    /// The child starts, and holds what its items take. With capacity it takes no memory.
     pub fn take(&mut self, child: u32, items: &[Item]) -> Result<(), AllocError>
         requires { 0 < child }
         ensures ok { OnOk result (IsSet self.old items.now (Some child) self.new) }
@@ -87,7 +87,7 @@ impl Holders {
         self.set(items, None)
     }
 
-    /// Undoes a start. The room stays.
+    /// Undoes a start. The capacity stays.
     pub fn untake(&mut self, items: &[Item])
         ensures free { IsSet self.old items.now None self.new }
         ensures keeps { KeepsRoom self.old self.new }
@@ -95,7 +95,7 @@ impl Holders {
         self.release(items)
     }
 
-    /// Undoes an end. The room is that which the start made.
+    /// Undoes an end. The capacity is that which the start made.
     pub fn unrelease(&mut self, child: u32, items: &[Item])
         requires from_one { 0 < child }
         requires room { HasRoomFor self.old items.now }
@@ -105,7 +105,7 @@ impl Holders {
         self.set(items, Some(child))
     }
 
-    /// The least number of a child that holds what excludes a task with these items.
+    /// The least ordinal of a child that holds what excludes a task with these items.
     #[tactic(auto, using(crate::proofs::SearchLemmas::least_holder_is_least))]
     pub fn busy_number(&self, items: &[Item]) -> Option<u32>
         ensures { IsLeastNumber (Excludes self.now items.now) result }
@@ -113,7 +113,8 @@ impl Holders {
         self.least_holder(items)
     }
 
-    /// The name of that child. Takes memory only where the parent's name has three numbers or more.
+    /// The name of that child. Takes memory only where the parent's name has three ordinals or
+    /// more.
     pub fn busy(&self, items: &[Item]) -> Result<Option<TaskName>, AllocError>
         ensures busy { IfOk result (IsLeastName (ExcludesTask self.now items.now)) }
         ensures short { length self.now.parent < 3 → IsOk result }
@@ -124,7 +125,7 @@ impl Holders {
         }
     }
 
-    /// The number of the child that holds the place.
+    /// The ordinal of the child that holds the location.
     pub fn holder(&self, place: Place) -> Option<u32>
         ensures { result ≡ holder self.now place }
     {
@@ -213,7 +214,7 @@ impl Holders {
         least
     }
 
-    // An item of a cell meets the cell and all memory, and one of all memory meets every place.
+    // An item of a cell meets the cell and all memory, and one of all memory meets every location.
     fn holder_at(&self, place: Place) -> Option<u32>
         ensures { result ≡ holder_at self.now (keys_of self.now.cells) place }
     {

@@ -14,16 +14,16 @@ ghost use Rattle.tb_model.specs.Alike.{Alike};
 ghost use Rattle.tb_excl.specs.Holders.{Holders, holder, takes, excludes, HasRoomFor, KeepsRoom, IsSet, ExcludesTask};
 ghost use Rattle.tb_excl.specs.Histories.{is_held, AreHolders};
 
-/// Items exclude two tasks from each other where those of one take a place that those of the other
-/// meet.
+/// Items exclude two tasks from each other where those of one take a location that those of the
+/// other meet.
 #[tactic(auto, using(crate::proofs::ApartLemmas::apart_by_place))]
 pub fn apart_by_place()
     ensures { (new old : List Item) → IsTrue (some_meet is_apart new old)
         ↔ ((place : Place) × IsTrue (takes old place) × IsTrue (excludes new place)) }
 {}
 
-/// In a legal history a place has at most one holder among the children of a task, and a cell and
-/// all memory have at most one together.
+/// In a legal history a location has at most one holder among the children of a task, and a cell
+/// and all memory have at most one together.
 #[tactic(auto, using(crate::proofs::ApartLemmas::one_holder, crate::proofs::ApartLemmas::one_of_both))]
 pub fn one_holder()
     ensures place { (cells : Cells) (H : History) (p : Name) (place : Place) (m n : ℕ) →
@@ -62,7 +62,7 @@ pub fn start()
         KeepsRoom old new → AreHolders (v ∷ H) p new }
 {}
 
-/// Where a start is taken back, the places that the child's items take are free.
+/// Where a start is taken back, the locations that the child's items take are free.
 pub fn start_back()
     ensures { (cells : Cells) (H : History) (v : Event) (p : Name) (n : ℕ) (old new : Holders) →
         Legal cells (v ∷ H) → IsTrue (starts (n ∷ p) v) → AreHolders (v ∷ H) p old →
@@ -76,7 +76,8 @@ pub fn end()
         IsSet old (items_of (n ∷ p) H) None new → KeepsRoom old new → AreHolders (v ∷ H) p new }
 {}
 
-/// Where an end is taken back, the child holds again what its items take, and there is room for it.
+/// Where an end is taken back, the child holds again what its items take, and there is capacity for
+/// it.
 #[tactic(auto, using(crate::proofs::HistoriesLemmas::end_room))]
 pub fn end_back()
     ensures room { (cells : Cells) (H : History) (v : Event) (p : Name) (n : ℕ) (old : Holders) →

@@ -1,5 +1,4 @@
--- What an entry in few bytes stands for, when one more is stored out of line, and whoever its task
--- is.
+-- What an entry in few bytes means, when one more is stored out of line, and whoever its task is.
 use Rattle.std.proofs.Common.{◌≡◌, ◌≤◌, ℕ, arith, List, [], ◌∷◌, ◌++◌, length, refl}
 use Rattle.tb_model.specs.Names.{Name}
 use Rattle.std.specs.List.{AllByRecursion}
@@ -11,7 +10,7 @@ use Rattle.tb_journal.specs.declared.compact.Compact.TheVariants.{Apart, Started
 use Rattle.tb_journal.specs.Compact.{entry_of, IsThere}
 use Rattle.tb_journal.specs.Journals.{is_step, seat_of}
 
--- an entry in few bytes stands for the same when one more is stored out of line
+-- an entry in few bytes means the same when one more is stored out of line
 pub one_kept : (apart : List Entry) (e : Entry) (t : Name) (k : Compact) → IsThere (length apart) k → entry_of (apart ++ e ∷ []) t k ≡ entry_of apart t k
 one_kept apart e t (Apart i) there = get_or_append_left apart (e ∷ []) Opened i there
 one_kept apart e t (Started seat) there = refl

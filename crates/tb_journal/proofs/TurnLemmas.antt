@@ -20,7 +20,7 @@ ordered : (low : ℕ) (ts : List Turn) (high : ℕ) → Rises low ts high → lo
 ordered low [] high r = r
 ordered low (x ∷ xs) high r = let rest = ordered (suc x.from) xs high r.1 in omega (arith, r.0, rest)
 
--- each turn begins behind the beginning
+-- each turn begins after the beginning
 above : (low : ℕ) (ts : List Turn) (high j : ℕ) (d : Turn) → Rises low ts high → j < length ts → low ≤ (get_or ts j d).from
 above low [] high j d r h = absurd (omega (arith, h))
 above low (x ∷ xs) high zero d r h = r.0
@@ -36,12 +36,12 @@ pub rises_added : (low : ℕ) (ts : List Turn) (x : Turn) → Rises low ts x.fro
 rises_added low [] x r = (r, omega arith)
 rises_added low (y ∷ ys) x r = (r.0, rises_added (suc y.from) ys x r.1)
 
--- the places in front of a further turn are whose they were
+-- the slots in front of a further turn are whose they were
 pub turn_kept : (t : Name) (ts : List Turn) (x : Turn) (i : ℕ) → i < x.from → task_at t (ts ++ x ∷ []) i ≡ task_at t ts i
 turn_kept t [] x i h = ap (λ b. cond b t x.task) (lt-ltb i x.from h)
 turn_kept t (y ∷ ys) x i h = ap (λ u. cond (nat_lt i y.from) t u) (turn_kept y.task ys x i h)
 
--- where a further turn begins, the place is its own
+-- where a further turn begins, the slot is its own
 pub turn_own : (t : Name) (ts : List Turn) (x : Turn) (low : ℕ) → Rises low ts x.from → task_at t (ts ++ x ∷ []) x.from ≡ x.task
 turn_own t [] x low r = ap (λ b. cond b t x.task) (le-ltb x.from x.from (omega arith))
 turn_own t (y ∷ ys) x low r =
@@ -49,7 +49,7 @@ turn_own t (y ∷ ys) x low r =
     ap (λ b. cond b t (task_at y.task (ys ++ x ∷ []) x.from)) (le-ltb x.from y.from (omega (arith, within)))
     ∙ turn_own y.task ys x (suc y.from) r.1
 
--- behind all turns the place is the last one's
+-- after all turns the slot is the last one's
 pub last_goes_on : (t : Name) (ts : List Turn) (low high : ℕ) (x : Turn) → Rises low ts high → slice_get ts (length ts - 1) ≡ Some x → task_at t ts high ≡ x.task
 last_goes_on t [] low high x r h = absurd (search (h, rules))
 last_goes_on t (y ∷ []) low high x r h =
@@ -70,7 +70,7 @@ begun ts at t r =
     let x : Turn = record { from = at; task = t } in
     record { rises = rises_added 0 ts x r; own = turn_own [] ts x 0 r; others = λ i l. turn_kept [] ts x i l }
 
--- no turn has begun at the place
+-- no turn has begun at the slot
 pub none_begun : (t : Name) (ts : List Turn) (at : ℕ) → ((i : ℕ) (d : Turn) → i < length ts → at < (get_or ts i d).from) → task_at t ts at ≡ t
 none_begun t [] at high = refl
 none_begun t (x ∷ xs) at high = ap (λ b. cond b t (task_at x.task xs at)) (lt-ltb at x.from (high 0 x (omega arith)))
@@ -86,7 +86,7 @@ turn_found t (x ∷ xs) at (suc r) d l low high =
     ap (λ b. cond b t (task_at x.task xs at)) (le-ltb at x.from (low 0 x (omega arith)))
     ∙ turn_found x.task xs at r d (omega (arith, l)) (λ i c h. low (suc i) c (omega (arith, h))) (λ i c h k. high (suc i) c (omega (arith, h)) (omega (arith, k)))
 
--- the places at which turns begin rise
+-- the slots at which turns begin rise
 pub turns_rise : (low : ℕ) (ts : List Turn) (high : ℕ) → Rises low ts high → (i j : ℕ) (d : Turn) → i ≤ j → j < length ts → (get_or ts i d).from ≤ (get_or ts j d).from
 turns_rise low [] high r i j d h l = absurd (omega (arith, l))
 turns_rise low (x ∷ xs) high r zero zero d h l = omega arith
@@ -100,7 +100,7 @@ pub entries_length : (apart : List Entry) (ts : List Turn) (at : ℕ) (ks : List
 entries_length apart ts at [] = refl
 entries_length apart ts at (k ∷ ks) = ap suc (entries_length apart ts (suc at) ks)
 
--- one more stands behind them
+-- one more is after them
 pub entries_push : (apart : List Entry) (ts : List Turn) (at : ℕ) (ks : List Compact) (k : Compact)
     → entries apart ts at (ks ++ k ∷ []) ≡ entries apart ts at ks ++ entry_of apart (task_at [] ts (at + length ks)) k ∷ []
 entries_push apart ts at [] k = ap (λ i. entry_of apart (task_at [] ts i) k ∷ []) (omega arith)
@@ -108,14 +108,14 @@ entries_push apart ts at (x ∷ ks) k =
     ap (λ es. entry_of apart (task_at [] ts at) x ∷ es)
     (entries_push apart ts (suc at) ks k ∙ ap (λ i. entries apart ts (suc at) ks ++ entry_of apart (task_at [] ts i) k ∷ []) (omega arith))
 
--- a turn begins or goes on behind them
+-- a turn begins or goes on after them
 entries_kept : (apart : List Entry) (old new : List Turn) (at : ℕ) (ks : List Compact)
     → ((i : ℕ) → i < at + length ks → task_at [] new i ≡ task_at [] old i) → entries apart new at ks ≡ entries apart old at ks
 entries_kept apart old new at [] same = refl
 entries_kept apart old new at (k ∷ ks) same =
     ap₂ (λ t xs. entry_of apart t k ∷ xs) (same at (omega arith)) (entries_kept apart old new (suc at) ks (λ i h. same i (omega (arith, h))))
 
--- one more stands for the task's entry
+-- one more means the task's entry
 pub entry_pushed : (apart : List Entry) (old new : List Turn) (ks : List Compact) (t : Name) (k : Compact) → Begins (length ks) t old new
     → entries apart new 0 (ks ++ k ∷ []) ≡ entries apart old 0 ks ++ entry_of apart t k ∷ []
 entry_pushed apart old new ks t k b =
@@ -134,7 +134,7 @@ apart_pushed apart e ts ks there =
     entries_push (apart ++ e ∷ []) ts 0 ks (Apart (length apart))
     ∙ ap₂ (λ old new. old ++ new ∷ []) (apart_kept apart e ts 0 ks there) (get_or_at apart e [] Opened (length apart) refl)
 
--- the one at a place
+-- the one at a slot
 entry_behind : (apart : List Entry) (ts : List Turn) (at : ℕ) (ks : List Compact) (i : ℕ) (d : Entry) (c : Compact) → i < length ks
     → get_or (entries apart ts at ks) i d ≡ entry_of apart (task_at [] ts (at + i)) (get_or ks i c)
 entry_behind apart ts at [] i d c h = absurd (omega (arith, h))
@@ -146,7 +146,8 @@ pub entry_at : (apart : List Entry) (ts : List Turn) (ks : List Compact) (i : �
     → get_or (entries apart ts 0 ks) i d ≡ entry_of apart (task_at [] ts i) (get_or ks i c)
 entry_at apart ts ks i d c h = entry_behind apart ts 0 ks i d c h ∙ ap (λ j. entry_of apart (task_at [] ts j) (get_or ks i c)) (omega arith)
 
--- what isn't asked of the tasks holds of all from a place on where it holds of these, whoever their tasks are
+-- what isn't asked of the tasks holds of all from a slot on where it holds of these, whoever their
+-- tasks are
 pub entries_all : (p : Entry → Bool) (apart : List Entry) (ts : List Turn) → ((t : Name) (k : Compact) → p (entry_of apart t k) ≡ p (entry_of apart [] k))
     → (from at : ℕ) (ks : List Compact) → list_all p (drop from (entries apart ts at ks)) ≡ list_all (λ k. p (entry_of apart [] k)) (drop from ks)
 entries_all p apart ts same zero at [] = refl

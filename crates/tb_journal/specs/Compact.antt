@@ -1,4 +1,4 @@
--- What an entry in few bytes stands for.
+-- What an entry in few bytes means.
 use Rattle.std.specs.Prelude.{ℕ, ◌≡◌, ◌<◌, List, [], Result, Ok, Err, slice_index_or, ⊤}
 use Rattle.tb_model.specs.Names.{Name}
 use Rattle.tb_model.specs.declared.action.Action.{Action}
@@ -37,17 +37,17 @@ IsNumbered (Stored seat cell value) = ⊤
 IsNumbered (Printed seat value) = ⊤
 IsNumbered _ = ⊥
 
--- it stands in the value itself, or as one of so many apart
+-- an entry is in the value itself, or is one of so many that are stored out of line
 abbrev pub IsThere : ℕ → Compact → Type 0
 IsThere count (Apart n) = n < count
 IsThere count _ = ⊤
 
--- it stands for the entry, which is the task's, whatever is stored out of line
+-- the few bytes mean the entry, which is the task's, whatever is stored out of line
 pub record StandsFor (e : Entry) (t : Name) (k : Compact) : Type 0 where
   pub is : (apart : List Entry) → entry_of apart t k ≡ e
   pub there : IsThere 0 k
 
--- the entry that stands in few bytes with its task, or that which is stored out of line
+-- the entry that is in few bytes with its task, or that which is stored out of line
 abbrev pub entry_in : Result (Name × Compact) Entry → Entry
 entry_in (Ok r) = entry_of [] r.0 r.1
 entry_in (Err e) = e

@@ -7,7 +7,7 @@ use Rattle.tb_model.specs.declared.action.Action.TheVariants.{Spawn, Wait}
 use Rattle.tb_model.specs.declared.entry.Entry.{Entry}
 use Rattle.tb_model.specs.declared.entry.Entry.TheVariants.{Opened, Stepped, Rolled}
 
--- the entries, the oldest first, for how many more there is room, and whose turn it is
+-- the entries, the oldest first, for how many more there is capacity, and whose turn it is
 pub record Written : Type 0 where
   pub items : List Entry
   pub room : ℕ

@@ -1,4 +1,4 @@
-//! An entry, as it stands in a journal.
+//! An entry, as it is in a journal.
 
 ghost use Rattle.std.specs.Prelude.{◌≡◌, [], IfOk, slice_index_or};
 ghost use Rattle.tb_model.specs.declared.entry.Entry.TheVariants.{Opened, Rolled};

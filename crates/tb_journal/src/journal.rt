@@ -14,10 +14,12 @@ use std::alloc::{AllocError, Global};
 use std::marker::Model;
 use tb_model::{Action, Entry, Event, TaskName};
 
-/// The entries of a run, the oldest first. Contracts see them, and for how many more there is room.
+/// The entries of a run, the oldest first. Contracts see them, and for how many more there is
+/// capacity.
 ///
-/// An entry takes 16 bytes, and each turn, in which the entries are of one task, 24 more. The opening
-/// stands whole in a list of its own, and so does the entry of a seat above 255, which no run has.
+/// An entry takes 16 bytes, and each turn, in which the entries are of one task, 24 more. The
+/// opening is whole in a list of its own, and so is the entry of a seat above 255, which no run
+/// has.
 #[derive(Drop)]
 pub struct Journal {
     alloc: Global,
@@ -64,7 +66,7 @@ impl Journal {
         self.compact.as_slice().len()
     }
 
-    /// Room for one more entry. Where it is refused, what room there was stays.
+    /// Capacity for one more entry. Where it is refused, what capacity there was stays.
     #[inline(always)]
     pub fn reserve(&mut self) -> Result<(), AllocError>
         ensures items { self.new.items ≡ self.old.items }
@@ -77,7 +79,7 @@ impl Journal {
         Ok(())
     }
 
-    /// Adds an entry for which there is room. It takes no memory.
+    /// Adds an entry for which there is capacity. It takes no memory.
     pub fn push_reserved(&mut self, entry: Entry)
         requires { 0 < self.old.room }
         ensures items { self.new.items ≡ self.old.items ++ entry ∷ [] }
@@ -86,7 +88,7 @@ impl Journal {
         self.add(short(entry));
     }
 
-    /// Adds the step of a seat, for which there is room. It takes no memory.
+    /// Adds the step of a seat, for which there is capacity. It takes no memory.
     #[inline]
     pub fn push_step(&mut self, seat: u32, event: Event)
         requires { 0 < self.old.room }
@@ -104,9 +106,9 @@ impl Journal {
         copied_for(self.turns.as_slice(), task)
     }
 
-    /// Adds the step of a seat by its action, where that has no name or list of its own, and for which
-    /// there is room. It is the task's whose name is handed over, else the task's that has the turn. It
-    /// takes no memory.
+    /// Adds the step of a seat by its action, where that has no name or list of its own, and for
+    /// which there is capacity. It is the task's whose name is handed over, else the task's that
+    /// has the turn. It takes no memory.
     #[inline(always)]
     pub fn push_short(&mut self, seat: u32, new: Option<TaskName>, action: &Action)
         requires room { 0 < self.old.room }
@@ -153,7 +155,7 @@ impl Journal {
         self.apart.push_reserved(entry);
     }
 
-    /// The entry at the place, made anew. Its lists share memory with what stands here.
+    /// The entry at the slot, made anew. Its lists share memory with what is here.
     #[tactic(auto, using(crate::proofs::TurnLemmas::entries_length))]
     pub fn entry(&self, place: usize) -> Result<Entry, AllocError>
         requires { place < length self.now.items }
@@ -173,7 +175,7 @@ impl Journal {
         are_below(seats, apart, self.compact.as_slice())
     }
 
-    /// Whether the entries from the place on are steps of so many workers, the seats from 1 on.
+    /// Whether the entries from the slot on are steps of so many workers, the seats from 1 on.
     #[tactic(auto, using(crate::proofs::TurnLemmas::entries_length))]
     pub fn are_turns(&self, workers: u32, from: usize) -> bool
         requires { from ≤ length self.now.items }
@@ -184,7 +186,7 @@ impl Journal {
     }
 }
 
-/// The entries from the place on.
+/// The entries from the slot on.
 fn later(compact: &[Compact], from: usize) -> &[Compact]
     requires { from ≤ length compact.now }
     ensures { result.now ≡ drop from compact.now }

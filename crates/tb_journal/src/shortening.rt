@@ -71,7 +71,7 @@ pub(crate) fn short_step(seat: u32, event: Event) -> Result<(TaskName, Compact),
 }
 
 /// The entry of a step in few bytes, with its task. Its action has no name or list of its own, so
-/// it is read where it stands.
+/// it is read where it is.
 fn short_for(seat: u8, task: TaskName, action: &Action) -> (TaskName, Compact)
     requires { IsFalse (is_long action.now) }
     ensures { StandsFor (step seat task action.now) result.0 result.1 }
@@ -80,7 +80,7 @@ fn short_for(seat: u8, task: TaskName, action: &Action) -> (TaskName, Compact)
     (task, compact)
 }
 
-/// What the entry of a step has beside its task. The action has no name or list of its own.
+/// What the entry of a step has besides its task. The action has no name or list of its own.
 #[inline(always)]
 pub(crate) fn short_action(seat: u8, action: &Action) -> Compact
     requires { IsFalse (is_long action.now) }

@@ -6,7 +6,7 @@ ghost use Rattle.tb_journal.specs.Turns.{Rises, task_at, Begins};
 use std::alloc::AllocError;
 use tb_model::TaskName;
 
-/// The entries from this place on are the task's, up to where the next turn begins.
+/// The entries from this slot on are the task's, up to where the next turn begins.
 #[derive(Drop)]
 pub(crate) struct Turn {
     from: usize,
@@ -46,7 +46,8 @@ pub(crate) fn kept_for(turns: &[Turn], task: TaskName) -> Option<TaskName>
     Some(task)
 }
 
-/// A task's turn begins at the place, which is behind all others; with no task the newest one goes on.
+/// A task's turn begins at the slot, which is after all others; with no task the newest one goes
+/// on.
 #[inline(always)]
 pub(crate) fn begin(turns: &mut Vec<Turn>, at: usize, new: Option<TaskName>)
     requires room { vec_len turns.old < vec_capacity turns.old }
@@ -61,7 +62,7 @@ pub(crate) fn begin(turns: &mut Vec<Turn>, at: usize, new: Option<TaskName>)
     }
 }
 
-/// The task whose entry stands at the place: the root, where none has begun.
+/// The task whose entry is at the slot: the root, where none has begun.
 pub(crate) fn task_at<'a>(root: &'a TaskName, turns: &'a [Turn], place: usize) -> &'a TaskName
     requires { (high : ℕ) × Rises 0 turns.now high }
     ensures { result.now ≡ task_at root.now turns.now place }

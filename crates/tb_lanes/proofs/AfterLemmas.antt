@@ -18,7 +18,7 @@ use Rattle.tb_races.proofs.PassLemmas.{any_put, passing}
 use Rattle.tb_lanes.specs.Clocks.{after_so, is_after, reaches, links_so, links_at}
 use Rattle.tb_lanes.proofs.FrontLemmas.{front_cut, one_more}
 
--- the step at the first place is linked to that at the second, or to one that comes after it
+-- the step at the first index is linked to that at the second, or to one that comes after it
 pub data After : Order → List Entry → ℕ → ℕ → Type 0 where
   direct : (o : Order) (entries : List Entry) (p q : ℕ) → q < p → p < length entries → links_at o entries p q ≡ true → After o entries p q
   by_way : (o : Order) (entries : List Entry) (p x q : ℕ) → x < p → p < length entries → links_at o entries p x ≡ true → After o entries x q → After o entries p q
@@ -39,7 +39,7 @@ own_more : (t : Name) (later front : History) → length (own t front) ≤ lengt
 own_more t [] front = omega arith
 own_more t (v ∷ later) front = omega (arith, own_more t later front, own_grows t v (later ++ front))
 
--- an entry is at its place whatever shows that the place is one
+-- a stored step is at its index whatever shows that the index is one
 pub same_at : (entries : List Entry) (p : ℕ) (w x : p < length entries) → (there entries p w).0 ≡ (there entries p x).0
 same_at entries p w x = some_same _ _ (sym (read w) ∙ read x)
   where
@@ -69,7 +69,7 @@ module _ (o : Order) (entries : List Entry) where
     abbrev e : StepId
     e = step_of (H q) (at q inside).event
 
-    -- the step at a place is that one only where the place is
+    -- the step at an index is that one only where the index is
     pub step_place : (n : ℕ) (w : n < length entries) → is_step e (H n) (at n w).event ≡ true → n ≡ q
     step_place n w h = by (cases_eq n q)
       where
@@ -144,7 +144,7 @@ module _ (o : Order) (entries : List Entry) where
   pub after_links : (p q : ℕ) → p < length entries → q < length entries → is_after o entries p q ≡ true → After o entries p q
   after_links p q w i h = linked (suc p) p q (omega arith) w i h
 
--- and the other way
+-- what comes after is found by the test too
 pub links_after : {o : Order} {entries : List Entry} {p q : ℕ} → After o entries p q → is_after o entries p q ≡ true
 links_after (direct o entries p q l w h) =
     let i : q < length entries = omega (arith, l, w) in
@@ -182,7 +182,7 @@ pub linked_on : (o : Order) (entries : List Entry) (p x q : ℕ) → x < p → p
 linked_on o entries p x q l w h (inl s) = subst (After o entries p) s (direct o entries p x l w h)
 linked_on o entries p x q l w h (inr a) = by_way o entries p x q l w h a
 
--- that an earlier step is reached, as it is tested
+-- whether an earlier step is reached, as it is tested
 pub reach_tested : (o : Order) (entries : List Entry) (p q : ℕ) → q < p → p < length entries → (v u : Entry) → slice_get entries p ≡ Some v → slice_get entries q ≡ Some u → reaches o entries p q ≡ comes_after o (step_of (history_of (take q entries)) u.event) (history_of (take p entries)) v.event
 reach_tested o entries p q l w v u v_is u_is =
     let i : q < length entries = omega (arith, l, w) in

@@ -44,7 +44,7 @@ pub on_ok_both : {A E : Type 0} (r : Result A E) (P Q R : Type 0) → (P → Q �
 on_ok_both (Ok x) P Q R f h g = f h g
 on_ok_both (Err e) P Q R f h g = tt
 
--- one that passes has a place
+-- one that passes has an index
 pub any_at : {A : Type 0} (p : A → Bool) (xs : List A) → list_any p xs ≡ true → (i : ℕ) × (x : A) × (i < length xs) × (slice_get xs i ≡ Some x) × (p x ≡ true)
 any_at p [] h = absurd (false≢true h)
 any_at p (x ∷ xs) h =
@@ -217,7 +217,7 @@ module _ (o : Order) (entries : List Entry) (p x : ℕ) (w : p < length entries)
   pub waits_is : waits_at o entries p x ≡ counts_some o (wait_kind (H entries p) one.task one.action other.task)
   waits_is = ap₂ (waits_so o (H entries p)) (at_read Synchronised entries p w) (at_read Synchronised entries x i)
 
-  -- either it waits by its action, or it stood at an undeferred child
+  -- either it waits by its action, or it was at an undeferred child
   pub link_parts : is_end_at entries x ≡ true → links_at o entries p x ≡ true → (both_at of_one entries p x ≡ true) ⊎ ((waits_at o entries p x ≡ true) ⊎ (holds (own one.task (H entries p)) other.task ≡ true))
   link_parts over h = by (or_cases (is_of one.task other) _ parts)
     where
@@ -389,7 +389,7 @@ module _ (exclusion : Bool) (entries : List Entry) (tasks : Tasks) (are : AreTas
                 (or_cases (has_no_items items) _ b.1),
           )
 
-  -- a step behind an undeferred child for that child
+  -- a step after an undeferred child for that child
   pub held_asked : holds (own v.task (H entries p)) u.task ≡ true → links_at o entries p x ≡ true → IsAsked o entries tasks p (number tasks p) x
   held_asked h link = record {
     end = end;

@@ -1,4 +1,4 @@
--- How far rows tell of a lane.
+-- How far rows reach in a lane.
 use Rattle.std.proofs.Common.{◌≡◌, ◌≢◌, ◌<◌, ◌≤◌, ◌+◌, ℕ, zero, suc, List, [], ◌∷◌, ◌++◌, Bool, true, false, ◌||◌, Vec, Global, Some, length, take, max, get_or, nat_lt, lt-ltb, ltb-true, cond, refl, sym, ap, ap₂, ◌∙◌, subst, arith, ◌⊎◌, inl, inr, eq-eqb, ne_eqb}
 use Rattle.std.proofs.lemmas.Bool.{cases_eq, false_from_ne_true}
 use Rattle.std.proofs.lemmas.List.{length-append, get_or_append_left, take_more}
@@ -57,7 +57,7 @@ bound_found (y ∷ row) (suc i) x up l e =
 
 -- ---- one pair more in a row that rises
 
--- what stands in a row with one pair more
+-- what is in a row with one pair more
 more_cases : (row : List LaneBound) (x : LaneBound) (i : ℕ) (y : LaneBound) → i < length (row ++ x ∷ []) → y ≡ get_or (row ++ x ∷ []) i y → ((i < length row) × (y ≡ get_or row i y)) ⊎ ((i ≡ length row) × (y ≡ x))
 more_cases row x i y l e = by (cases_eq i (length row))
   where

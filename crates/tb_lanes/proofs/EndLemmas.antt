@@ -31,7 +31,7 @@ row_none o entries P ends a b none = record {
   tied = tied_none o entries ends a b;
 }
 
--- the same ends, meant in other words
+-- a row of the same ends, meant in other words
 pub row_same : (o : Order) (entries : List Entry) (P Q : ℕ → Type 0) (ends : Ends) → ((x : ℕ) → P x → Q x) → ((x : ℕ) → Q x → P x) → AreRow o entries P ends → AreRow o entries Q ends
 row_same o entries P Q ends there back are = record {
   each = λ i l. there (end_at ends i) (are.each i l);
@@ -134,7 +134,7 @@ passed_more o entries n w ends are low i l top rest j m h = by (cases_order i j)
 pub end_here : (entries : List Entry) (n : ℕ) (x : Entry) → n < length entries → x ≡ get_or entries n x → (b : Bool) → b ≡ is_end x.event.action → is_end_at entries n ≡ b
 end_here entries n x w here b h = ap ends_so (slice_get_read entries (length entries) n x refl w here) ∙ sym h
 
--- of whatever an end comes after, of which a row tells, the row tells too
+-- of whatever an end comes after, which a row has, the row says too
 module _ (o : Order) (entries : List Entry) (tasks : Tasks) (clocks : Lanes) (row : ℕ → ℕ) (k p : ℕ) (so : IsSound o entries tasks clocks row k p) (ends : Ends) (are : IsRow o entries p ends) where
   abbrev Told : ℕ → Type 0
   Told q = is_told o entries tasks clocks row k p q ≡ true
@@ -149,6 +149,6 @@ module _ (o : Order) (entries : List Entry) (tasks : Tasks) (clocks : Lanes) (ro
           (λ a. so.closed (end_at ends i) (end_at ends j) (are.each i l).0 (are.each j (omega (arith, h, l))).0 t a)
           (or_cases (end_at ends i == end_at ends j) (is_after o entries (end_at ends i) (end_at ends j)) (are.tied.skipped i j l m (omega (arith, h, d))))
 
-  -- so all that were looked at are told of, where those that were skipped are
+  -- so all that were looked at are listed, where those that were skipped are
   pub seen_more : (i : ℕ) → i < length ends.places.items → Told (end_at ends i) → (P : ℕ → Type 0) → ((j : ℕ) → i < j → j < length ends.places.items → P j → Told (end_at ends j)) → (j : ℕ) → skip_at ends i ≤ j → j < length ends.places.items → P j → Told (end_at ends j)
   seen_more i l t P rest j m h q = ⊎_elim (λ a. rest j a h q) (λ a. skip_told i l t j m a) (cases_lt i j)

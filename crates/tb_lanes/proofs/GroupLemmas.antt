@@ -54,7 +54,7 @@ without_next cells G t m l s = false_from_ne_true _ (λ h. by m s h)
         (λ a. by p (parent_spawned cells G j p l s) a)
         (or_cases (same_name (suc (spawn_count (own t G)) ∷ t) (j ∷ p)) (is_within (suc (spawn_count (own t G)) ∷ t) p) h)
 
--- the undeferred child at which a task stands is a member, where a group is open
+-- the undeferred child for which a task waits is a member, where a group is open
 pub held_member : (acts : List Action) (u : Name) → holds acts u ≡ true → groups acts ≢ [] → is_member acts u ≡ true
 held_member (Spawn s ∷ acts) u h some = by (groups acts) some
   where
@@ -97,7 +97,8 @@ module _ (entries : List Entry) (tasks : Tasks) (are : AreTasks entries tasks) (
     mine : (b : ℕ) (i : b < length entries) → number tasks b ≡ number tasks p → is_of t (ev entries b i) ≡ true
     mine b i same = subst (λ s. is_of s (ev entries b i) ≡ true) (task_at b i same) (same_refl (ev entries b i).task)
 
-    -- what a later part of the walk tells, where q is the place so far, and b that of the step in front
+    -- what a later part of the walk says, where q is the index so far, and b that of the step in
+    -- front
     module _ (q b closed : ℕ) (l : b < q) (k : q ≤ p) (i : b < length entries) (same : number tasks q ≡ number tasks p) (prev : previous tasks q ≡ suc b) (of : number tasks b ≡ number tasks q)
         (rest : (m : Name) → IsSpawned (H entries q) m → is_member (own t (H entries p)) m ≡ member_behind closed false (own t (H entries q)) m) where
       abbrev u : Event

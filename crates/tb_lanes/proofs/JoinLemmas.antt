@@ -37,7 +37,7 @@ module _ (o : Order) (entries : List Entry) (tasks : Tasks) (n : ℕ) (clocks : 
   abbrev below : ℕ → Bool
   below q = is_below clocks (row_at clocks p) (lane clocks p) p q
 
-  -- of all steps it reaches what its lane, its row, or what generates its task tells
+  -- of all steps it reaches what its lane, its row, or what generates its task says
   pub told_all : (q : ℕ) → q < n → reaches o entries p q ≡ (below q || origin_reaches o entries (origin tasks p) q)
   told_all q m = by (cases_order q p)
     where
@@ -87,7 +87,7 @@ module _ (o : Order) (entries : List Entry) (tasks : Tasks) (n : ℕ) (clocks : 
       ∙ or_assoc b (below q) (origin_reaches o entries (origin tasks p) q)
       ∙ ap (λ a. b || a) (sym (told_all q m))
 
-  -- what is added isn't behind it
+  -- what is added isn't after it
   pub adds_low : (m : ℕ) → p < m → (k q : ℕ) → adds clocks p k q ≡ true → q < m
   adds_low m l k q s =
       ⊎_elim (λ b. omega (arith, leb-true q p (and_parts (lane clocks p == k) (nat_le q p) b).1, l)) (λ b. omega (arith, told.low p inside k q b, l))
@@ -109,7 +109,7 @@ module _ (o : Order) (entries : List Entry) (tasks : Tasks) (p : ℕ) (w : p < l
   abbrev Told : (ℕ → ℕ) → ℕ → Type 0
   Told r q = is_told o entries tasks clocks r k p q ≡ true
 
-  -- what was told stays so
+  -- what was listed stays so
   kept_told : (q : ℕ) → Told row q → Told next q
   kept_told q h =
       ⊎_elim (λ a. or_left (k == lane clocks q && nat_lt q p) _ a)
@@ -122,7 +122,7 @@ module _ (o : Order) (entries : List Entry) (tasks : Tasks) (p : ℕ) (w : p < l
   low_both : IsLow next p
   low_both j q h = ⊎_elim (λ a. small j q a) (λ a. more_small j q a) (or_cases (says row j q) (says more j q) (sym (both j q) ∙ h))
 
-  -- what is left to the place `at` is told already, or nothing is left
+  -- what is left to the index `at` is listed already, or nothing is left
   pub adds_up : (at : ℕ) → ((q : ℕ) → q < p → (says more (lane clocks q) q || reaches o entries at q) ≡ reaches o entries s q) → at < p → IsSound o entries tasks clocks row k p → Told row at → Adds o entries tasks clocks k p s row next
   adds_up at same l so told = record {
     kept = λ j q h. both j q ∙ or_left (says row j q) _ h;

@@ -1,4 +1,4 @@
--- What is kept of each cell and of the output has the newest step with which a later one races.
+-- What is stored of each cell and of the output has the newest step with which a later one races.
 use Rattle.std.proofs.Common.{◌≡◌, ◌≢◌, ◌<◌, ◌≤◌, ◌+◌, ◌-◌, ℕ, suc, List, [], ◌∷◌, ◌++◌, Bool, true, false, not, ◌||◌, ◌&&◌, cond, length, take, refl, sym, ap, ap₂, ◌∙◌, subst, arith, Option, Some, None, is_some, get_or, slice_get, ◌⊎◌, inl, inr, ⊎_elim, map, set, get_or-set_same, get_or-set_other, Vec, Global}
 use Rattle.std.proofs.lemmas.Bool.{and_parts, and_from, or_left, or_right, false≢true, true_from_ne_false, both_ways, cases_eq, cases_lt, eq-eqb, ne_eqb}
 use Rattle.std.proofs.lemmas.List.{get_or-take, get_or_append_left, length-take, length-append, map-set, length-map, get_or-map}
@@ -31,7 +31,7 @@ kept_other rows i j v other =
     let items = λ (x : Vec ℕ Global). x.items in
     ap (λ (xs : List (List ℕ)). get_or xs j []) (map-set items rows i v) ∙ get_or-set_other (map items rows) i j v.items [] other
 
--- nothing is kept at first
+-- nothing is stored at first
 row_none : (entries : List Entry) (i : ℕ) (loads : Bool) → IsRow entries 0 i loads []
 row_none entries i loads = record {
   low = λ j l. absurd (omega (arith, l));
@@ -66,7 +66,7 @@ module _ (row : List ℕ) (count n : ℕ) (few : count ≤ length row) where
   more_last : get_or more count 0 ≡ n
   more_last = subst (λ m. get_or more m 0 ≡ n) cut_length (get_or-append_seam (take count row) n [] 0)
 
-  -- the places of the new row
+  -- the indexes of the new row
   abbrev Place : ℕ → Type 0
   Place j = ((j < count) × (get_or more j 0 ≡ get_or row j 0)) ⊎ ((j ≡ count) × (get_or more j 0 ≡ n))
 

@@ -1,4 +1,4 @@
--- In which lane a step may stand.
+-- In which lane a step may be.
 use Rattle.std.proofs.Common.{◌≡◌, ◌≢◌, ◌<◌, ◌≤◌, ℕ, suc, List, [], ◌∷◌, true, not, length, sym, ap, ◌∙◌, subst, arith, ◌⊎◌, inl, inr, ⊎_elim, eq-eqb, eqb-true}
 use Rattle.std.proofs.lemmas.Bool.{both_ways, cases_eq, cases_order}
 use Rattle.tb_model.specs.declared.action.Action.{Action}
@@ -133,7 +133,7 @@ module _ (o : Order) (entries : List Entry) (tasks : Tasks) (are : AreTasks entr
           ⊎_elim (λ z. omega (arith, z, is))
           (λ d. let e : d.0 ≡ b = omega (arith, d.1, is) in d.2 (ap (number tasks) e ∙ sym (eqb-true (number tasks p) (number tasks b) (are.same p b w (omega (arith, m, w)) ∙ mine)))) c
 
-  -- or that of an end of which the row tells, where it is the newest there
+  -- or that of an end which the row has, where it is the newest there
   module _ (k x : ℕ) (is : IsLane entries clocks k p) (new : k ≡ fresh) (l : x < p) (over : is_end_at entries x ≡ true) (last : clocks.last (lane clocks x) ≡ x) where
     pub last_in : (q : ℕ) → q < p → lane clocks q ≡ lane clocks x → q ≤ x
     last_in q m e = omega (arith, told.newest q m, ap clocks.last e, last)
@@ -149,7 +149,7 @@ module _ (o : Order) (entries : List Entry) (tasks : Tasks) (are : AreTasks entr
         by b m e only (inl s) = subst (λ y. is_end_at entries y ≡ true) (sym s) over
         by b m e only (inr d) = absurd (only x (omega (arith, d, last_in b m e)) l (sym e))
 
-  -- with what its row tells, it stands in either
+  -- with what its row says, it is in either
   pub stands_in : (row : ℕ → ℕ) (k j : ℕ) → IsLane entries clocks k p → IsSound o entries tasks clocks row k p → TellsEnds o entries tasks clocks row k p → TellsShared o entries tasks clocks row k p → GoesOn o entries tasks clocks row k p j
       → IsClock o entries tasks clocks row j p × IsLane entries clocks j p
   stands_in row k j is so ends shares (inl e) =
@@ -168,7 +168,7 @@ module _ (o : Order) (entries : List Entry) (tasks : Tasks) (are : AreTasks entr
         place,
       )
 
-  -- where it goes on in another lane, it does so behind an end after which it comes
+  -- where it goes on in another lane, it does so after an end after which it comes
   pub goes_behind : (row : ℕ → ℕ) (k j : ℕ) → IsSound o entries tasks clocks row k p → GoesOn o entries tasks clocks row k p j → (j ≡ k) ⊎ ((j < clocks.count) × IsEndBefore o entries p (clocks.last j))
   goes_behind row k j so (inl e) = inl e
   goes_behind row k j so (inr h) =

@@ -1,4 +1,4 @@
--- What links a step to another, by places.
+-- What links a step to another, by indexes.
 use Rattle.std.proofs.Common.{◌≡◌, ◌<◌, ℕ, List, Bool, true, false, ◌||◌, cond, length, take, refl, sym, ap, ap₂, ◌∙◌, Option, Some, None, is_some, ◌⊎◌, inl, inr, get_or}
 use Rattle.std.specs.Option.{option_or, option_map}
 use Rattle.std.proofs.lemmas.Bool.{false≢true}

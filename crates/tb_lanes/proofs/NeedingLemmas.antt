@@ -34,7 +34,7 @@ module _ (o : Order) (entries : List Entry) (old new : List ℕ) (s : ℕ) (e : 
   pub below_last : (q : ℕ) → reaches o entries s q ≡ true → IsBelow o entries new q
   below_last q h = (length old, omega (arith, length_more old new s e), subst (λ y. reaches o entries y q ≡ true) (sym (last_is old new s e)) h)
 
--- where conflicts don't count, nothing is to be told of them
+-- where conflicts don't count, nothing is to be said of them
 pub none_shared : (exclusion : Bool) (entries : List Entry) (tasks : Tasks) (clocks : Lanes) (row : ℕ → ℕ) (k p : ℕ) → TellsShared (order_of exclusion) entries tasks clocks row k p
 none_shared true entries tasks clocks row k p h = absurd (false≢true h)
 none_shared false entries tasks clocks row k p h = absurd (false≢true h)

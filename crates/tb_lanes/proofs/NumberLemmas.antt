@@ -1,4 +1,4 @@
--- How the steps of a history are told apart by their tasks.
+-- How the steps of a history are distinguished by their tasks.
 use Rattle.std.proofs.Common.{◌≡◌, ◌≢◌, ◌<◌, ◌≤◌, ◌+◌, ◌==◌, ℕ, zero, suc, List, [], ◌∷◌, ◌++◌, Bool, true, false, ◌||◌, cond, length, get_or, refl, sym, ap, ap₂, ◌∙◌, subst, arith, Some, unwrap_or, ◌⊎◌, inl, inr, ⊎_elim, eq-eqb, ne_eqb, slice_get, Result, Ok, Err, IsOk, OnOk}
 use Rattle.std.specs.Map.{lookup}
 use Rattle.std.specs.List.{list_any}
@@ -22,7 +22,7 @@ use Rattle.tb_lanes.proofs.LinkLemmas.{both_is}
 use Rattle.tb_lanes.proofs.OwnLemmas.{ev, H, place_any, legal_here}
 use Rattle.tb_steps.proofs.FirstLemmas.{some_same}
 
--- ---- places by name
+-- ---- indexes by name
 
 pub writes_place : (old new : Places) (t : Name) (k : ℕ) → ((u : Name) → lookup (same_name u) new ≡ cond (same_name t u) (Some k) (lookup (same_name u) old)) → IsPut old t k new
 writes_place old new t k writes u = by (same_name t u) (writes u)
@@ -54,7 +54,7 @@ module _ (entries : List Entry) where
   pub touched_other : (t : Name) (n : ℕ) (w : n < length entries) → is_of t (ev entries n w) ≡ false → touched entries t (suc n) ≡ cond (spawns t (ev entries n w)) (suc n) (touched entries t n)
   touched_other t n w h = next t n w ∙ ap (λ b. cond (b || spawns t (ev entries n w)) (suc n) (touched entries t n)) h
 
-  -- it touches the task, and none behind it does
+  -- it touches the task, and none after it does
   record IsNewest (t : Name) (n r : ℕ) : Type 0 where
     low : r ≤ n
     one : (b : ℕ) → r ≡ suc b → (i : b < length entries) → touch t (ev entries b i) ≡ true
@@ -299,7 +299,7 @@ module _ (entries : List Entry) where
           touching : (q : ℕ) (i : q < length entries) → both_at of_one entries n q ≡ true → both_at touches entries n q ≡ true
           touching q i h = touch_is q i ∙ or_left (is_of t (ev entries q i)) _ (sym (both_is Synchronised entries n q w i of_one) ∙ h)
 
-          -- no step of it stands in front
+          -- no step of it is in front
           none : (q : ℕ) → q < n → both_at of_one entries n q ≡ true → ⊥
           none q m h = by r refl
             where

@@ -1,4 +1,4 @@
--- The steps of one task in front of a place, and its depend items.
+-- The steps of one task in front of an index, and its depend items.
 use Rattle.std.proofs.Common.{◌≡◌, ◌≢◌, ◌+◌, ◌<◌, ◌≤◌, ℕ, zero, suc, List, [], ◌∷◌, Bool, true, false, ◌||◌, cond, length, take, drop, refl, sym, ap, ap₂, ◌∙◌, subst, arith, Some, ◌⊎◌, inl, inr, ⊎_elim, eq-eqb, eqb-true, get_or, slice_get}
 use Rattle.std.specs.List.{list_any}
 use Rattle.std.proofs.lemmas.Bool.{or_cases, or_left, or_right, both_ways, false≢true, false_from_ne_true, cases_eq}
@@ -37,7 +37,7 @@ module _ (entries : List Entry) where
   more : (n : ℕ) (w : n < length entries) → H (suc n) ≡ ev n w ∷ H n
   more n w = one_more entries n (at Synchronised entries n w) w (at_is Synchronised entries n w)
 
-  -- one that passes stands at a place
+  -- one that passes is at an index
   pub any_place : (f : Event → Bool) (n : ℕ) → n ≤ length entries → list_any f (H n) ≡ true → (x : ℕ) × (x < n) × ((i : x < length entries) × (f (ev x i) ≡ true))
   any_place f zero l h = absurd (false≢true h)
   any_place f (suc n) l h =
@@ -215,7 +215,7 @@ module _ (entries : List Entry) (tasks : Tasks) (are : AreTasks entries tasks) (
   items_told legal n u l i iu is xs named =
       named (at Synchronised entries u iu) (at_read Synchronised entries u iu) ∙ sym (items_some_at entries tasks are p w legal n u l i iu is) ∙ ap (λ s. items_of s (H entries n)) same_task
 
-  -- the number of the step among those of its task
+  -- the ordinal of the step among those of its task
   pub ordinal_here : (b : ℕ) → b < length entries → previous tasks p ≡ suc b → number tasks b ≡ number tasks p → (k : ℕ) → ((u : Entry) → slice_get entries b ≡ Some u → k ≡ suc (length (own u.event.task (H entries b)))) → k + 1 ≡ suc (length (own v.event.task (H entries p)))
   ordinal_here b ib prev same k told =
       let y = at Synchronised entries b ib in

@@ -186,6 +186,6 @@ module _ (tasks : Tasks) (clocks : Clocks) (key : Key) (p : ℕ) (old new : Name
       by true e = subst (IsFit p) (the v ends (sym (writes k ∙ ap (λ b. cond b (Some v) (row_of old k)) e) ∙ is)) one
       by false e = fit k ends (sym (writes k ∙ ap (λ b. cond b (Some v) (row_of old k)) e) ∙ is)
 
--- where the map was written as it stood
+-- where the map was written as it was
 pub moved_writes : (key : Key) (old mid new : Named) (v : Ends) → mid ≡ old → ((u : Key) → row_of new u ≡ cond (same_key key u) (Some v) (row_of mid u)) → (u : Key) → row_of new u ≡ cond (same_key key u) (Some v) (row_of old u)
 moved_writes key old mid new v same writes u = writes u ∙ ap (λ (m : Named). cond (same_key key u) (Some v) (row_of m u)) same

@@ -1,4 +1,4 @@
--- What shares a cell or the output with others, by the number of what it shares.
+-- What shares a cell or the output with others, by the index of what it shares.
 use Rattle.std.proofs.Common.{◌≡◌, ◌≢◌, ◌==◌, ◌⊎◌, inl, inr, ℕ, suc, Bool, true, false, ◌||◌, ◌&&◌, not, cond, refl, sym, ap, ◌∙◌, arith, Option, Some, None, is_some}
 use Rattle.std.proofs.lemmas.Bool.{eq-eqb, ne_eqb, cases_eq}
 use Rattle.tb_model.specs.declared.action.Action.{Action}
@@ -63,7 +63,7 @@ no_print i k h = sym (and_true (i == 0) ∙ ne_eqb i 0 (λ z. omega (arith, z, t
 no_cell : (i d : ℕ) → ◌≡◌ {A = Option ℕ} (Some 0) (Some i) → false ≡ ((i == suc d) && true)
 no_cell i d h = sym (and_true (i == suc d) ∙ ne_eqb i (suc d) (λ z. omega (arith, z, the 0 i h)))
 
--- two share something where both have the number, and not both load
+-- two share something where both have the index, and not both load
 pub shared_told : (a b : Action) (i : ℕ) → slot_of a ≡ Some i → is_some (shared a b) ≡ (is_in i b && (not (is_load a) || not (is_load b)))
 shared_told (Store k x) (Load r d y) i h = same_cell i k d h
 shared_told (Store k x) (Store d y) i h = same_cell i k d h

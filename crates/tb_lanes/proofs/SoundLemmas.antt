@@ -19,7 +19,7 @@ same_tests true false f g = sym (f refl)
 same_tests false true f g = g refl
 same_tests false false f g = refl
 
--- the origin that is told reaches
+-- the origin that is listed reaches
 pub origin_suc : (o : Order) (entries : List Entry) (b n q : ℕ) → n ≡ suc b → origin_reaches o entries n q ≡ reaches o entries b q
 origin_suc o entries b n q is =
     let some : (n == 0) ≡ false = ne_eqb n 0 (λ z. omega (arith, z, is)) in
@@ -30,7 +30,7 @@ pub origin_none : (o : Order) (entries : List Entry) (n q : ℕ) → n ≡ 0 →
 origin_none o entries n q is = ap (λ c. cond c false (reaches o entries (n - 1) q)) (eq-eqb n 0 is)
 
 module _ (o : Order) (entries : List Entry) where
-  -- what is reached isn't behind
+  -- what is reached isn't after
   pub reached_low : (p q : ℕ) → Reached o entries p q → q ≤ p
   reached_low p q (inl e) = omega (arith, e)
   reached_low p q (inr a) = omega (arith, low a)
@@ -56,7 +56,7 @@ module _ (o : Order) (entries : List Entry) (tasks : Tasks) (are : AreTasks entr
     abbrev Told : (ℕ → ℕ) → ℕ → Type 0
     Told row q = is_told o entries tasks clocks row k p q ≡ true
 
-    -- the three ways to be told of
+    -- the three ways to be listed
     abbrev Ways : (ℕ → ℕ) → ℕ → Type 0
     Ways row q = ((k ≡ lane clocks q) × (q < p)) ⊎ ((says row (lane clocks q) q ≡ true) ⊎ (origin_reaches o entries (origin tasks p) q ≡ true))
 
@@ -140,7 +140,7 @@ module _ (o : Order) (entries : List Entry) (tasks : Tasks) (are : AreTasks entr
     abbrev none : ℕ → ℕ
     none j = 0
 
-    -- nothing is told of but by the origin
+    -- nothing is listed but by the origin
     no_row : (q : ℕ) → Told k none q → origin_reaches o entries (origin tasks p) q ≡ true
     no_row q h = by (ways k none q h)
       where
@@ -237,7 +237,7 @@ module _ (o : Order) (entries : List Entry) (tasks : Tasks) (are : AreTasks entr
 
   -- ---- in another lane
 
-  -- the row tells as much in the lane of an end of which it tells, where that is the newest there
+  -- the row says as much in the lane of an end which it has, where that is the newest there
   module _ (k : ℕ) (row : ℕ → ℕ) (x : ℕ) (l : x < p) (new : (q : ℕ) → q < p → lane clocks q ≢ k) (last : (q : ℕ) → q < p → lane clocks q ≡ lane clocks x → q ≤ x) (so : IsSound o entries tasks clocks row k p) (tells : Told k row x) where
     abbrev m : ℕ
     m = lane clocks x
@@ -328,7 +328,7 @@ module _ (o : Order) (entries : List Entry) (tasks : Tasks) (are : AreTasks entr
     pub told_own : (row : ℕ → ℕ) (q : ℕ) → q < p → both_at of_one entries p q ≡ true → Told k row q
     told_own row q l h = told_lane k row q (own q l h) l
 
-    -- what touches its task is told of
+    -- what touches its task is listed
     pub told_touch : (row : ℕ → ℕ) → IsSound o entries tasks clocks row k p → (x : ℕ) → x < p → x < length entries → both_at touches entries p x ≡ true → Behind entries tasks p → Told k row x
     told_touch row so x l j h (alone _ _ _ none zero_is nothing) = absurd (nothing x l h)
     told_touch row so x l j h (generated _ _ _ b m prev is made other only) =

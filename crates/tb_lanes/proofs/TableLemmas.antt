@@ -25,7 +25,7 @@ row_pushed rows new v n e len =
     ∙ ap₂ kept_in e last
     ∙ sym (kept_read (rows ++ v ∷ []) (length rows) v (omega (arith, length-append rows (v ∷ []))) (sym (get_or-append_seam rows v [] v)))
 
--- and those that were there
+-- the rows that were there stay
 pub row_kept : (rows new : List (Vec LaneBound Global)) (v : Vec LaneBound Global) (n : ℕ) → new ≡ rows ++ v ∷ [] → n ≤ length rows → row_in new n ≡ row_in rows n
 row_kept rows new v n e low = by (cases_eq n 0)
   where
@@ -58,7 +58,7 @@ clocks_none o entries tasks clocks a b = record {
   };
 }
 
--- bounds that are equal tell as much
+-- bounds that are equal say as much
 pub sound_same : (o : Order) (entries : List Entry) (tasks : Tasks) (clocks : Lanes) (row next : ℕ → ℕ) (k p : ℕ) → ((j : ℕ) → row j ≡ next j) → IsSound o entries tasks clocks row k p → IsSound o entries tasks clocks next k p
 sound_same o entries tasks clocks row next k p same = subst (λ r. IsSound o entries tasks clocks r k p) (fun_ext same)
 
@@ -97,7 +97,7 @@ module _ (o : Order) (entries : List Entry) (tasks : Tasks) (n : ℕ) where
       };
     }
 
-    -- a step stands by the row that was added
+    -- a step has the row that was added
     pub stands_by : (number k : ℕ) → number ≡ length rows.items → IsRising v.items → IsClock o entries tasks (lanes_of old) (bound_in v.items) k n → IsLow (bound_in v.items) n → IsLane entries (lanes_of old) k n → IsStanding o entries tasks with_row number k n
     stands_by number k len up clock small place =
         let row = row_pushed old.rows.items rows.items v number e len in record {

@@ -1,9 +1,9 @@
--- How far a row tells of each lane.
+-- How far a row reaches in each lane.
 use Rattle.std.specs.Prelude.{ℕ, ◌≡◌, ◌<◌, ◌==◌, List, [], ◌∷◌, Vec, All, length, max, get_or, if◌then◌else◌}
 use Rattle.std.specs.declared.alloc.Global.{Global}
 use Rattle.tb_lanes.specs.declared.lane_bound.LaneBound.{LaneBound}
 
--- how far the pair tells of the lane of this number
+-- how far the pair reaches in the lane with this index
 abbrev pub bound_by : LaneBound → ℕ → ℕ
 bound_by x k = if x.lane == k then x.to else 0
 

@@ -1,4 +1,4 @@
--- What an order puts in front of each step, by places and by tasks.
+-- What an order puts in front of each step, by indexes and by tasks.
 use Rattle.std.specs.Prelude.{ℕ, suc, ◌≡◌, ◌≢◌, ◌⊎◌, ◌<◌, ◌≤◌, List, [], ◌∷◌, ◌++◌, Bool, false, ◌&&◌, ◌||◌, ◌==◌, ◌-◌, ◌+◌, if◌then◌else◌, Option, Some, None, IsTrue, length, take, slice_get, slice_index_or, nat_lt, nat_le, Vec, map}
 use Rattle.std.specs.declared.alloc.Global.{Global}
 use Rattle.tb_model.specs.declared.event.Event.{Event}
@@ -13,18 +13,18 @@ use Rattle.tb_lanes.specs.declared.ends.Ends.{Ends}
 use Rattle.tb_lanes.specs.declared.lane_bound.LaneBound.{LaneBound}
 use Rattle.tb_lanes.specs.Bounds.{IsRising, bound_in}
 
--- ---- steps by their places
+-- ---- steps by their indexes
 
 abbrev pub after_so : Order → History → Option Entry → Option StepId → Bool
 after_so o H None e = false
 after_so o H (Some v) None = false
 after_so o H (Some v) (Some e) = comes_after o e H v.event
 
--- the step at the first place comes after that at the second
+-- the step at the first index comes after that at the second
 abbrev pub is_after : Order → List Entry → ℕ → ℕ → Bool
 is_after o entries p q = after_so o (history_of (take p entries)) (slice_get entries p) (step_at entries q)
 
--- it is that one, or comes after it
+-- the step at the first index is that at the second, or comes after it
 abbrev pub reaches : Order → List Entry → ℕ → ℕ → Bool
 reaches o entries p q = p == q || is_after o entries p q
 
@@ -33,7 +33,7 @@ links_so o H None u = false
 links_so o H (Some v) None = false
 links_so o H (Some v) (Some u) = links o H v.event u.event
 
--- it is linked to that
+-- the step at the first index is linked to that at the second
 abbrev pub links_at : Order → List Entry → ℕ → ℕ → Bool
 links_at o entries p x = links_so o (history_of (take p entries)) (slice_get entries p) (slice_get entries x)
 
@@ -74,8 +74,8 @@ origin tasks p = slice_index_or tasks.origins.items p 0
 abbrev pub previous : Tasks → ℕ → ℕ
 previous tasks p = slice_index_or tasks.previous.items p 0
 
--- what stands in front of the step at p that touches its task: nothing; the newest generates it, and nothing else does; the
--- newest is of it
+-- what is before the step at p that touches its task: nothing; the newest generates it, and nothing
+-- else does; the newest is of it
 pub data Behind : List Entry → Tasks → ℕ → Type 0 where
   alone : (entries : List Entry) (tasks : Tasks) (p : ℕ) → previous tasks p ≡ 0 → origin tasks p ≡ 0
       → ((x : ℕ) → x < p → IsTrue (both_at touches entries p x) → ⊥) → Behind entries tasks p
@@ -84,14 +84,14 @@ pub data Behind : List Entry → Tasks → ℕ → Type 0 where
   going_on : (entries : List Entry) (tasks : Tasks) (p b : ℕ) → b < p → previous tasks p ≡ suc b → origin tasks p ≡ origin tasks b → IsTrue (both_at of_one entries p b)
       → ((x : ℕ) → x < p → IsTrue (both_at touches entries p x) → x ≤ b) → Behind entries tasks p
 
--- each step has a number, and what generates its task stands in front
+-- each step has a number, and what generates its task is in front
 pub record IsShaped (tasks : Tasks) : Type 0 where
   pub origins_listed : length tasks.origins.items ≡ length tasks.numbers.items
   pub previous_listed : length tasks.previous.items ≡ length tasks.numbers.items
   pub low : (p : ℕ) → p < length tasks.numbers.items → origin tasks p ≤ p
   pub near : (p : ℕ) → p < length tasks.numbers.items → previous tasks p ≤ p
 
--- what generates the task of the step at p: nothing in front of it, or the step that is told
+-- what generates the task of the step at p: nothing in front of it, or the step that is listed
 abbrev pub IsOrigin : List Entry → Tasks → ℕ → Type 0
 IsOrigin entries tasks p =
     ((origin tasks p ≡ 0) × ((x : ℕ) → x < p → IsTrue (both_at generates entries p x) → ⊥))
@@ -105,7 +105,7 @@ pub record AreTasks (entries : List Entry) (tasks : Tasks) : Type 0 where
   pub behind : (p : ℕ) → p < length entries → Behind entries tasks p
   pub origins : (p : ℕ) → p < length entries → IsOrigin entries tasks p
 
--- ---- by lanes: a lane is a row of tasks, each of which starts behind the end of the one in front
+-- ---- by lanes: a lane is a row of tasks, each of which starts after the end of the one in front
 
 -- of each step its lane, and how far each lane is in front of it: all its steps up to a bound; of each lane its newest step, and
 -- how many lanes there are
@@ -115,7 +115,7 @@ pub record Lanes : Type 0 where
   pub last : ℕ → ℕ
   pub count : ℕ
 
--- by these bounds q is in front, as a step of the lane of this number
+-- by these bounds q is in front, as a step of the lane with this index
 abbrev pub says : (ℕ → ℕ) → ℕ → ℕ → Bool
 says row k q = nat_lt q (row k)
 
@@ -127,7 +127,7 @@ lane clocks p = clocks.lane p
 abbrev pub row_at : Lanes → ℕ → ℕ → ℕ
 row_at clocks p = clocks.bound p
 
--- q is a step of the lane, not behind p, or the row says that it is in front
+-- q is a step of the lane, not after p, or the row says that it is in front
 abbrev pub is_below : Lanes → (ℕ → ℕ) → ℕ → ℕ → ℕ → Bool
 is_below clocks row k p q = (k == lane clocks q && nat_le q p) || says row (lane clocks q) q
 
@@ -135,25 +135,25 @@ is_below clocks row k p q = (k == lane clocks q && nat_le q p) || says row (lane
 abbrev pub origin_reaches : Order → List Entry → ℕ → ℕ → Bool
 origin_reaches o entries n q = if n == 0 then false else reaches o entries (n - 1) q
 
--- of what is in front of the step at p, which stands in this lane, what the row tells of
+-- of what is in front of the step at p, which is in this lane, what the row says of
 abbrev pub is_told : Order → List Entry → Tasks → Lanes → (ℕ → ℕ) → ℕ → ℕ → ℕ → Bool
 is_told o entries tasks clocks row k p q =
     (k == lane clocks q && nat_lt q p) || (says row (lane clocks q) q || origin_reaches o entries (origin tasks p) q)
 
--- the clock of the step at p, which stands in this lane, tells what is in front of it
+-- the clock of the step at p, which is in this lane, says what is in front of it
 abbrev pub IsClock : Order → List Entry → Tasks → Lanes → (ℕ → ℕ) → ℕ → ℕ → Type 0
 IsClock o entries tasks clocks row k p = (q : ℕ) → q < p → reaches o entries p q ≡ is_told o entries tasks clocks row k p q
 
--- the row says nothing of what is behind the step at p
+-- the row says nothing of what is after the step at p
 abbrev pub IsLow : (ℕ → ℕ) → ℕ → Type 0
 IsLow row p = (k q : ℕ) → IsTrue (says row k q) → q < p
 
--- no step among the first n comes behind that at b in its lane
+-- no step among the first n comes after that at b in its lane
 abbrev pub IsLastOf : Lanes → ℕ → ℕ → Type 0
 IsLastOf clocks n b = (q : ℕ) → b < q → q < n → lane clocks q ≢ lane clocks b
 
--- the lanes are those of the first n steps: each step's bounds tell what is in front of it; the steps of a task are of one lane,
--- and others follow in it only behind its end
+-- the lanes are those of the first n steps: each step's bounds say what is in front of it; the
+-- steps of a task are of one lane, and others follow in it only after its end
 pub record AreLanes (o : Order) (entries : List Entry) (tasks : Tasks) (n : ℕ) (clocks : Lanes) : Type 0 where
   pub low : (p : ℕ) → p < n → IsLow (row_at clocks p) p
   pub told : (p : ℕ) → p < n → IsClock o entries tasks clocks (row_at clocks p) (lane clocks p) p
@@ -162,7 +162,8 @@ pub record AreLanes (o : Order) (entries : List Entry) (tasks : Tasks) (n : ℕ)
   pub few : (q : ℕ) → q < n → lane clocks q < clocks.count
   pub newest : (q : ℕ) → q < n → q ≤ clocks.last (lane clocks q)
 
--- the step at p can stand in the lane of this number: its task's, else a new one or that of a task that has ended
+-- the step at p can be in the lane with this index: its task's, else a new one or that of a task
+-- that has ended
 pub record IsLane (entries : List Entry) (clocks : Lanes) (k p : ℕ) : Type 0 where
   pub few : k ≤ clocks.count
   pub own : (q : ℕ) → q < p → IsTrue (both_at of_one entries p q) → k ≡ lane clocks q
@@ -178,14 +179,15 @@ skip_at ends i = slice_index_or ends.skips.items i 0
 abbrev pub IsEnd : List Entry → ℕ → ℕ → Type 0
 IsEnd entries n x = (x < n) × IsTrue (is_end_at entries x)
 
--- the ends stand with what is skipped from each, the oldest first
+-- the ends are with what is skipped from each, the oldest first
 pub record AreTied (o : Order) (entries : List Entry) (ends : Ends) : Type 0 where
   pub listed : length ends.skips.items ≡ length ends.places.items
   pub low : (i : ℕ) → i < length ends.places.items → skip_at ends i ≤ i
   pub ordered : (i j : ℕ) → i < length ends.places.items → j < i → end_at ends j ≤ end_at ends i
   pub skipped : (i j : ℕ) → i < length ends.places.items → skip_at ends i ≤ j → j < i → IsTrue (reaches o entries (end_at ends i) (end_at ends j))
 
--- these are the ends that are meant, the oldest first; each comes after those in front of it from the one on that is told
+-- these are the ends that are meant, the oldest first; each comes after those in front of it from
+-- the one on that is listed
 pub record AreRow (o : Order) (entries : List Entry) (P : ℕ → Type 0) (ends : Ends) : Type 0 where
   pub each : (i : ℕ) → i < length ends.places.items → P (end_at ends i)
   pub all : (x : ℕ) → P x → (i : ℕ) × (i < length ends.places.items) × (end_at ends i ≡ x)
@@ -194,27 +196,27 @@ pub record AreRow (o : Order) (entries : List Entry) (P : ℕ → Type 0) (ends 
 abbrev pub AreEnds : Order → List Entry → ℕ → Ends → Type 0
 AreEnds o entries n ends = AreRow o entries (IsEnd entries n) ends
 
--- one end more, the one at n, which comes after those from the one on that is told
+-- one end more, the one at n, which comes after those from the one on that is listed
 pub record IsEndMore (old : Ends) (n from : ℕ) (new : Ends) : Type 0 where
   pub places : new.places.items ≡ old.places.items ++ n ∷ []
   pub skips : new.skips.items ≡ old.skips.items ++ from ∷ []
 
--- what the row tells of comes before the step at p, and so does what is in front of that
+-- what the row says of comes before the step at p, and so does what is in front of that
 pub record IsSound (o : Order) (entries : List Entry) (tasks : Tasks) (clocks : Lanes) (row : ℕ → ℕ) (k p : ℕ) : Type 0 where
   pub sound : (q : ℕ) → q < p → IsTrue (is_told o entries tasks clocks row k p q) → IsTrue (is_after o entries p q)
   pub closed : (s q : ℕ) → s < p → q < p → IsTrue (is_told o entries tasks clocks row k p s) → IsTrue (is_after o entries s q) → IsTrue (is_told o entries tasks clocks row k p q)
   pub low : IsLow row p
 
--- the row tells of each end to which the step at p is linked
+-- the row has each end to which the step at p is linked
 abbrev pub TellsEnds : Order → List Entry → Tasks → Lanes → (ℕ → ℕ) → ℕ → ℕ → Type 0
 TellsEnds o entries tasks clocks row k p = (x : ℕ) → x < p → IsTrue (is_end_at entries x) → IsTrue (links_at o entries p x) → IsTrue (is_told o entries tasks clocks row k p x)
 
--- the row tells of the end at x, which is in front of the step at p
+-- the row has the end at x, which is in front of the step at p
 abbrev pub IsJoined : Order → List Entry → Tasks → Lanes → (ℕ → ℕ) → ℕ → ℕ → ℕ → Type 0
 IsJoined o entries tasks clocks row k p x = (x < p) × IsTrue (is_end_at entries x) × IsTrue (is_told o entries tasks clocks row k p x)
 
--- the lane is the one of this number, k, or where that is a new one, the lane of an end of which the row tells and that is the
--- newest there
+-- the lane is the one with this index, k, or where that is a new one, the lane of an end which the
+-- row has and that is the newest there
 abbrev pub GoesOn : Order → List Entry → Tasks → Lanes → (ℕ → ℕ) → ℕ → ℕ → ℕ → Type 0
 GoesOn o entries tasks clocks row k p j =
     (j ≡ k)
@@ -224,7 +226,7 @@ GoesOn o entries tasks clocks row k p j =
 abbrev pub adds : Lanes → ℕ → ℕ → ℕ → Bool
 adds clocks p k q = (lane clocks p == k && nat_le q p) || says (row_at clocks p) k q
 
--- what is in front of the step at s is added to the bounds, as far as it isn't told
+-- what is in front of the step at s is added to the bounds, as far as it isn't listed
 pub record Adds (o : Order) (entries : List Entry) (tasks : Tasks) (clocks : Lanes) (k p s : ℕ) (old new : ℕ → ℕ) : Type 0 where
   pub kept : (j q : ℕ) → IsTrue (says old j q) → IsTrue (says new j q)
   pub reached : (q : ℕ) → q < p → IsTrue (reaches o entries s q) → IsTrue (is_told o entries tasks clocks new k p q)
@@ -233,7 +235,7 @@ pub record Adds (o : Order) (entries : List Entry) (tasks : Tasks) (clocks : Lan
 
 -- ---- as they are stored
 
--- the row of this number, empty where there is none
+-- the row with this index, empty where there is none
 abbrev pub kept_in : {A : Type 0} → List (Vec A Global) → ℕ → List A
 kept_in {A} rows i = slice_index_or (map (λ (v : Vec A Global). v.items) rows) i []
 
@@ -261,7 +263,7 @@ pub record AreClocks (o : Order) (entries : List Entry) (tasks : Tasks) (n : ℕ
   pub rising : (p : ℕ) → p < n → IsRising (row_of_step clocks p)
   pub lanes : AreLanes o entries tasks n (lanes_of clocks)
 
--- the step at p may stand there: its row is the one of this number, and its lane this one
+-- the step at p may be there: its row is the one with this index, and its lane this one
 pub record IsStanding (o : Order) (entries : List Entry) (tasks : Tasks) (clocks : Clocks) (row k p : ℕ) : Type 0 where
   pub within : row ≤ length clocks.rows.items
   pub rising : IsRising (row_in clocks.rows.items row)
@@ -287,6 +289,6 @@ pub record IsOneMore (old : Clocks) (row k n : ℕ) (new : Clocks) : Type 0 wher
   pub last : slice_index_or new.lasts.items k 0 ≡ n
   pub others : (j : ℕ) → j ≢ k → j < length old.lasts.items → slice_index_or new.lasts.items j 0 ≡ slice_index_or old.lasts.items j 0
 
--- each of the first n steps has its number among those of its task
+-- each of the first n steps has its ordinal among those of its task
 abbrev pub AreOrdinals : List Entry → ℕ → List ℕ → Type 0
 AreOrdinals entries n ks = (p : ℕ) → p < n → (v : Entry) → slice_get entries p ≡ Some v → slice_index_or ks p 0 ≡ suc (length (own v.event.task (history_of (take p entries))))

@@ -8,7 +8,7 @@ use Rattle.tb_races.specs.Orders.{Order}
 use Rattle.tb_lanes.specs.declared.kept.Kept.{Kept}
 use Rattle.tb_lanes.specs.Clocks.{kept_in, reaches}
 
--- what the action shares with others: the output has number 0, and each cell the next after its own
+-- what the action shares with others: the output has index 0, and each cell the next after its own
 abbrev pub slot_of : Action → Option ℕ
 slot_of (Load r c x) = Some (suc c)
 slot_of (Store c x) = Some (suc c)
@@ -25,13 +25,13 @@ abbrev pub is_load : Action → Bool
 is_load (Load r c x) = true
 is_load _ = false
 
--- ---- by places
+-- ---- by indexes
 
 abbrev pub in_so : ℕ → Option Entry → Bool
 in_so i None = false
 in_so i (Some u) = is_in i u.event.action
 
--- the step at the place shares with others what has this number
+-- the step at the index shares with others what has this index
 abbrev pub is_in_at : List Entry → ℕ → ℕ → Bool
 is_in_at entries i x = in_so i (slice_get entries x)
 
@@ -39,7 +39,7 @@ abbrev pub loads_so : Option Entry → Bool
 loads_so None = false
 loads_so (Some u) = is_load u.event.action
 
--- it loads
+-- the step at the index loads
 abbrev pub loads_at : List Entry → ℕ → Bool
 loads_at entries x = loads_so (slice_get entries x)
 
@@ -52,15 +52,15 @@ shares_so (Some v) (Some u) = is_some (shared v.event.action u.event.action)
 abbrev pub shares_at : List Entry → ℕ → ℕ → Bool
 shares_at entries p x = shares_so (slice_get entries p) (slice_get entries x)
 
--- n is one more than the place of the newest step with which the step at p shares something and that doesn't come before it,
--- or 0
+-- n is one more than the index of the newest step with which the step at p shares something and
+-- that doesn't come before it, or 0
 pub record IsNewest (o : Order) (entries : List Entry) (p n : ℕ) : Type 0 where
   pub within : n ≤ p
   pub unordered : 0 < n → reaches o entries p (n - 1) ≡ false
   pub shares : 0 < n → IsTrue (shares_at entries p (n - 1))
   pub newest : (x : ℕ) → n ≤ x → x < p → IsTrue (shares_at entries p x) → IsTrue (reaches o entries p x)
 
--- one more than the place, 0 for none
+-- one more than the index, 0 for none
 abbrev pub behind : Option ℕ → ℕ
 behind None = 0
 behind (Some p) = suc p
@@ -69,9 +69,9 @@ behind (Some p) = suc p
 abbrev pub IsLarger : ℕ → ℕ → ℕ → Type 0
 IsLarger a b m = ((m ≡ a) × (b ≤ a)) ⊎ ((m ≡ b) × (a ≤ b))
 
--- ---- what is kept
+-- ---- what is stored
 
--- one more than the last of the first places
+-- one more than the last of the first indexes
 abbrev pub newest_of : List ℕ → ℕ → ℕ
 newest_of row count = if count == 0 then 0 else suc (slice_index_or row (count - 1) 0)
 
@@ -82,7 +82,7 @@ pub record IsRow (entries : List Entry) (n i : ℕ) (loads : Bool) (row : List �
   pub loading : (j : ℕ) → j < length row → loads_at entries (slice_index_or row j 0) ≡ loads
   pub rising : (j k : ℕ) → j < k → k < length row → slice_index_or row j 0 < slice_index_or row k 0
 
--- so many places of the row are left where what comes before the step at p is taken off its end
+-- so many indexes of the row are left where what comes before the step at p is taken off its end
 pub record IsCut (o : Order) (entries : List Entry) (p : ℕ) (row : List ℕ) (count : ℕ) : Type 0 where
   pub few : count ≤ length row
   pub last : 0 < count → reaches o entries p (slice_index_or row (count - 1) 0) ≡ false
@@ -100,6 +100,6 @@ pub record AreRows (o : Order) (entries : List Entry) (n i : ℕ) (writes loads 
   pub writes_left : (x : ℕ) → x < n → IsTrue (is_in_at entries i x) → loads_at entries x ≡ false → IsCovered o entries x writes
   pub loads_left : (x : ℕ) → x < n → IsTrue (is_in_at entries i x) → loads_at entries x ≡ true → IsCovered o entries x writes ⊎ IsCovered o entries x loads
 
--- so it is with all that is shared
+-- for all that is shared the rows have all with which a later step may race
 abbrev pub AreKept : Order → List Entry → ℕ → Kept → Type 0
 AreKept o entries n kept = (i : ℕ) → AreRows o entries n i (kept_in kept.writes.items i) (kept_in kept.loads.items i)

@@ -24,7 +24,7 @@ IsBelow o entries places q = (i : ℕ) × (i < length places) × IsTrue (reaches
 abbrev pub IsTouched : Order → List Entry → ℕ → ℕ → Type 0
 IsTouched o entries p q = (b : ℕ) × (b < p) × IsTrue (both_at touches entries p b) × IsTrue (reaches o entries b q)
 
--- all of which the row tells comes from a step that touches the task
+-- all which the row has comes from a step that touches the task
 abbrev pub IsOwn : Order → List Entry → Tasks → Lanes → (ℕ → ℕ) → ℕ → ℕ → Type 0
 IsOwn o entries tasks clocks row k p = (q : ℕ) → q < p → IsTrue (is_told o entries tasks clocks row k p q) → IsTouched o entries p q
 
@@ -42,7 +42,7 @@ pub record FindsEnds (o : Order) (entries : List Entry) (p : ℕ) (found : List 
   pub each : (i : ℕ) → i < length found → IsLinkedEnd o entries p (place_at found i)
   pub all : (x : ℕ) → IsLinkedEnd o entries p x → IsTouched o entries p x ⊎ IsBelow o entries found x
 
--- where conflicts count, the row tells of each step with which the one at p shares something
+-- where conflicts count, the row has each step with which the one at p shares something
 abbrev pub TellsShared : Order → List Entry → Tasks → Lanes → (ℕ → ℕ) → ℕ → ℕ → Type 0
 TellsShared o entries tasks clocks row k p = IsTrue (counts_conflicts o) → (x : ℕ) → x < p → IsTrue (shares_at entries p x) → IsTrue (is_told o entries tasks clocks row k p x)
 
@@ -74,7 +74,7 @@ IsAmong places q = (i : ℕ) × (i < length places) × (place_at places i ≡ q)
 abbrev pub own_row : Clocks → Step → List LaneBound
 own_row clocks s = row_in clocks.rows.items s.row
 
--- the row with which the step begins tells of q
+-- the row with which the step begins has q
 abbrev pub is_known : List Entry → Tasks → Clocks → Step → ℕ → Bool
 is_known entries tasks clocks s q = is_told AllNeeds entries tasks (lanes_of clocks) (bound_in (own_row clocks s)) s.lane s.at q
 
@@ -89,7 +89,7 @@ pub record IsBegun (entries : List Entry) (tasks : Tasks) (clocks : Clocks) (s :
   pub lane : IsLane entries (lanes_of clocks) s.lane s.at
   pub own : IsOwn AllNeeds entries tasks (lanes_of clocks) (bound_in (own_row clocks s)) s.lane s.at
 
--- the step at c is linked to that of which nothing tells yet
+-- the step at c is linked to that which nothing has yet
 abbrev pub IsCandidate : List Entry → Tasks → Clocks → Step → ℕ → Type 0
 IsCandidate entries tasks clocks s c = (c < s.at) × IsTrue (links_at AllNeeds entries s.at c) × (is_known entries tasks clocks s c ≡ false)
 

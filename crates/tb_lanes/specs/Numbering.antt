@@ -1,4 +1,4 @@
--- How the steps of a history are told apart by their tasks.
+-- How the steps of a history are distinguished by their tasks.
 use Rattle.std.specs.Prelude.{ℕ, zero, suc, ◌≡◌, ◌<◌, ◌≤◌, List, [], ◌∷◌, ◌++◌, Bool, false, ◌||◌, ◌==◌, if◌then◌else◌, Option, Some, None, length, slice_get, unwrap_or}
 use Rattle.std.specs.Map.{lookup}
 use Rattle.tb_model.specs.declared.event.Event.{Event}
@@ -16,7 +16,7 @@ abbrev pub touched_or : Name → ℕ → Option Entry → ℕ → ℕ
 touched_or t n None old = old
 touched_or t n (Some u) old = if touch t u.event then suc n else old
 
--- one more than the place of the newest of the first n steps that touches the task, 0 for none
+-- one more than the index of the newest of the first n steps that touches the task, 0 for none
 abbrev pub touched : List Entry → Name → ℕ → ℕ
 touched entries t zero = 0
 touched entries t (suc n) = touched_or t n (slice_get entries n) (touched entries t n)
@@ -28,7 +28,7 @@ Places = List (Name × ℕ)
 abbrev pub place_of : Places → Name → ℕ
 place_of places t = unwrap_or (lookup (same_name t) places) 0
 
--- the name gets this place
+-- the name gets this index
 abbrev pub IsPut : Places → Name → ℕ → Places → Type 0
 IsPut old t to new = (u : Name) → place_of new u ≡ (if same_name t u then to else place_of old u)
 
@@ -36,7 +36,7 @@ abbrev pub of_so : Name → Option Entry → Bool
 of_so t None = false
 of_so t (Some u) = is_of t u.event
 
--- the step at the place is one of the task
+-- the step at the index is one of the task
 abbrev pub of_at : List Entry → Name → ℕ → Bool
 of_at entries t n = of_so t (slice_get entries n)
 
@@ -45,11 +45,11 @@ abbrev pub is_last : List Entry → Name → ℕ → Bool
 is_last entries t zero = false
 is_last entries t (suc n) = of_at entries t n
 
--- of each task but that of the newest step the newest place is noted
+-- of each task but that of the newest step the newest index is noted
 abbrev pub AreNewest : List Entry → ℕ → Places → Type 0
 AreNewest entries n places = (t : Name) → is_last entries t n ≡ false → place_of places t ≡ touched entries t n
 
--- the first n steps are numbered, with numbers below this
+-- the first n steps are numbered, with ids below this
 pub record AreNumbered (entries : List Entry) (n count : ℕ) (tasks : Tasks) : Type 0 where
   pub previous_listed : length tasks.previous.items ≡ n
   pub numbers_listed : length tasks.numbers.items ≡ n

@@ -26,8 +26,8 @@ use Rattle.tb_lanes.specs.Clocks.{AddsEnd, AreClocks, AreEnds, AreRow, AreTasks,
 
 -- ---- keys
 
--- what the ends of a row have in common: the number of the task that generates theirs, and 0 and 0, or an item of theirs, by a
--- number and its cell
+-- what the ends of a row have in common: the id of the task that generates theirs, and 0 and 0, or
+-- an item of theirs, by a code and its cell
 abbrev pub Key : Type 0
 Key = ℕ × ℕ × ℕ
 
@@ -48,7 +48,7 @@ item_key g kind All = (g, kind_number kind + 1, 0)
 abbrev pub child_key : ℕ → Key
 child_key g = (g, 0, 0)
 
--- the number of the task that generates that of the step at p; the root counts as its own child
+-- the id of the task that generates that of the step at p; the root counts as its own child
 abbrev pub parent : Tasks → ℕ → ℕ
 parent tasks p = number tasks (origin tasks p - 1)
 
@@ -89,13 +89,13 @@ IsRowOf o entries P (Some ends) = AreRow o entries P ends
 abbrev pub AreRows : Order → List Entry → (Key → ℕ → Type 0) → Named → Type 0
 AreRows o entries P rows = (k : Key) → IsRowOf o entries (P k) (row_of rows k)
 
--- the row can take the end at this place
+-- the row can take the end at this index
 pub record IsFit (at : ℕ) (ends : Ends) : Type 0 where
   pub low : (i : ℕ) → i < length ends.places.items → end_at ends i ≤ at
   pub listed : length ends.skips.items ≡ length ends.places.items
   pub skips : (i : ℕ) → i < length ends.places.items → skip_at ends i ≤ i
 
--- so can each
+-- each row can take the end at this index
 abbrev pub AreFit : ℕ → Named → Type 0
 AreFit at rows = (k : Key) (ends : Ends) → row_of rows k ≡ Some ends → IsFit at ends
 
@@ -105,7 +105,7 @@ IsGrown tasks clocks p old None = ⊥
 IsGrown tasks clocks p None (Some new) = (none : Ends) × (none.places.items ≡ []) × (none.skips.items ≡ []) × AddsEnd tasks clocks p none new
 IsGrown tasks clocks p (Some old) (Some new) = AddsEnd tasks clocks p old new
 
--- it was added to the row of this key
+-- the end was added to the row of this key
 pub record AddsTo (tasks : Tasks) (clocks : Clocks) (key : Key) (p : ℕ) (old new : Named) : Type 0 where
   pub here : IsGrown tasks clocks p (row_of old key) (row_of new key)
   pub others : (k : Key) → same_key key k ≡ false → row_of new k ≡ row_of old k
@@ -147,7 +147,7 @@ pub record AreJoined (entries : List Entry) (tasks : Tasks) (past : Past) (k p :
   pub end : (x : ℕ) → j.end ≡ Some x → IsJoined (order_of past.exclusion) entries tasks (lanes_of past.clocks) (bound_among j.rows.items) k p x
   pub ends : (i : ℕ) → i < length j.ends.items → IsLinkedEnd (order_of past.exclusion) entries p (place_at j.ends.items i)
 
--- the row so far tells of q as one in front of the step
+-- the row so far has q as one in front of the step
 abbrev pub IsTold : List Entry → Tasks → Past → ℕ → ℕ → Joined → ℕ → Type 0
 IsTold entries tasks past k p j q = IsTrue (is_told (order_of past.exclusion) entries tasks (lanes_of past.clocks) (bound_among j.rows.items) k p q)
 

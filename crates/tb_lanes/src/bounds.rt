@@ -8,7 +8,7 @@ ghost use Rattle.tb_lanes.specs.Bounds.{AreRising, IsRising, bound_in};
 use crate::lane_bound::LaneBound;
 use std::alloc::{AllocError, Global};
 
-/// How far the row tells of the lane of this number.
+/// How far the row reaches in the lane with this index.
 pub fn bound(row: &[LaneBound], lane: usize) -> usize
     ensures { IsRising row.now → result ≡ bound_in row.now lane }
 {
@@ -29,7 +29,7 @@ pub fn bound(row: &[LaneBound], lane: usize) -> usize
     0
 }
 
-/// How far some of the rows tells of the lane of this number.
+/// How far some of the rows reach in the lane with this index.
 pub fn bound_among(rows: &[Vec<LaneBound>], lane: usize) -> usize
     ensures { AreRising rows.now → result ≡ is.bound_among rows.now lane }
 {
@@ -40,7 +40,7 @@ pub fn bound_among(rows: &[Vec<LaneBound>], lane: usize) -> usize
     most
 }
 
-/// A row that tells of each lane what either does.
+/// A row that says of each lane what either does.
 pub fn merged(
     alloc: Global,
     left: &[LaneBound],
@@ -71,7 +71,7 @@ pub fn merged(
     Ok(row)
 }
 
-/// Whether there is a bound at `i`, of a lane that isn't behind that of the other row at `j`.
+/// Whether there is a bound at `i`, of a lane that isn't after that of the other row at `j`.
 fn comes_next(row: &[LaneBound], i: usize, other: &[LaneBound], j: usize) -> bool
     ensures yes { IsTrue result → (i < length row.now)
         × ((x y : ABound) → x ≡ get_or row.now i x → j < length other.now → y ≡ get_or other.now j y → x.lane ≤ y.lane) }
@@ -88,7 +88,7 @@ fn comes_next(row: &[LaneBound], i: usize, other: &[LaneBound], j: usize) -> boo
     row[i].lane <= other[j].lane
 }
 
-/// Of two bounds of one lane the one that tells more.
+/// Of two bounds of one lane the one that says more.
 fn further(left: LaneBound, right: LaneBound) -> LaneBound
     requires one { left.lane ≡ right.lane }
     ensures lane { result.lane ≡ left.lane }
@@ -119,7 +119,7 @@ pub fn add_row(
     Ok(())
 }
 
-/// One row that tells of each lane what some of the rows does.
+/// One row that says of each lane what some of the rows does.
 pub fn whole(alloc: Global, rows: Vec<Vec<LaneBound>>) -> Result<Vec<LaneBound>, AllocError>
     ensures bounds { IfOk result (λ row. (k : ℕ) →
         bound_in row.items k ≡ is.bound_among rows.items k) }

@@ -12,10 +12,10 @@ use crate::lane_bound::LaneBound;
 use crate::tasks::Tasks;
 
 /// What an order puts in front of each step of a history, by lanes: of each lane it is all up to
-/// some step. A lane is a row of tasks, each of which starts behind the end of the one in front.
+/// some step. A lane is a row of tasks, each of which starts after the end of the one in front.
 #[derive(Drop)]
 pub struct Clocks {
-    /// For each step the number of a row, one more, and 0 for one with nothing.
+    /// For each step the index of a row, one more, and 0 for one with nothing.
     pub of: Vec<usize>,
     /// In each row how far the lanes are in front, the lanes rising.
     pub rows: Vec<Vec<LaneBound>>,
@@ -49,8 +49,8 @@ pub fn reaches(tasks: &Tasks, clocks: &Clocks, late: usize, early: usize) -> boo
     false
 }
 
-/// Whether the step at `early` is one of the lane of the step at this place, none behind it, or its
-/// row tells of it.
+/// Whether the step at `early` is one of the lane of the step at this index, none after it, or its
+/// row has it.
 fn is_below(clocks: &Clocks, at: usize, early: usize) -> bool
     requires laned { length clocks.now.lanes.items ≡ length clocks.now.of.items }
     requires at { at < length clocks.now.of.items }
@@ -63,7 +63,7 @@ fn is_below(clocks: &Clocks, at: usize, early: usize) -> bool
         || early < bound(row(&clocks.rows, clocks.of[at]), lane)
 }
 
-/// The row of this number.
+/// The row with this index.
 pub fn row(rows: &[Vec<LaneBound>], number: usize) -> &[LaneBound]
     ensures { result.now ≡ row_in rows.now number }
 {

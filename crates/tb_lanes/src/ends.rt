@@ -31,7 +31,7 @@ pub fn no_ends(alloc: Global) -> Ends
     }
 }
 
-/// Adds the end at this place.
+/// Adds the end at this index.
 pub fn note_end(
     tasks: &Tasks,
     clocks: &Clocks,
@@ -54,7 +54,7 @@ pub fn note_end(
     Ok(())
 }
 
-/// The number of the first end from which on the step at this place comes after all.
+/// The index of the first end from which on the step at this index comes after all.
 fn first_skipped(tasks: &Tasks, clocks: &Clocks, ends: &Ends, at: usize) -> usize
     requires shaped { IsShaped tasks.now }
     requires listed { length clocks.now.of.items ≤ length tasks.now.numbers.items }

@@ -15,13 +15,13 @@ use tb_model::Action;
 #[derive(Drop)]
 pub struct Kept {
     pub alloc: Global,
-    /// By the number of what they share: those that store or print.
+    /// By the index of what they share: those that store or print.
     pub writes: Vec<Vec<usize>>,
-    /// By the number of what they share: those that load.
+    /// By the index of what they share: those that load.
     pub loads: Vec<Vec<usize>>,
 }
 
-/// Nothing is kept yet.
+/// Nothing is stored yet.
 pub fn nothing(alloc: Global) -> Kept
     ensures { (o : Order) (entries : List Entry) → AreKept o entries 0 result }
 {
@@ -32,7 +32,7 @@ pub fn nothing(alloc: Global) -> Kept
     }
 }
 
-/// The number of what the action shares with others: 0 for the output, and for each cell the next
+/// The index of what the action shares with others: 0 for the output, and for each cell the next
 /// after its own.
 pub fn slot_of(action: &Action) -> Option<usize>
     ensures { result ≡ sharing.slot_of action.now }
@@ -52,7 +52,7 @@ pub fn is_load(action: &Action) -> bool
     matches!(action, Action::Load { .. })
 }
 
-/// The row of this number.
+/// The row with this index.
 pub fn places_in(rows: &[Vec<usize>], i: usize) -> &[usize]
     ensures { result.now ≡ kept_in rows.now i }
 {
@@ -63,7 +63,7 @@ pub fn places_in(rows: &[Vec<usize>], i: usize) -> &[usize]
     }
 }
 
-/// Of the row of this number the first places stay, as many as are told.
+/// Of the row with this index the first indexes stay, as many as are given.
 pub fn cut(rows: &mut Vec<Vec<usize>>, slot: usize, count: usize)
     requires slot { slot < length rows.old.items }
     ensures row { kept_in rows.new.items slot ≡ take count (kept_in rows.old.items slot) }
@@ -73,7 +73,7 @@ pub fn cut(rows: &mut Vec<Vec<usize>>, slot: usize, count: usize)
     rows[slot].truncate(count);
 }
 
-/// Of the row of this number the first places stay, as many as are told, and `at` is added behind them.
+/// Of the row with this index the first indexes stay, as many as `count`, and `at` is added after them.
 pub fn put(
     rows: &mut Vec<Vec<usize>>,
     slot: usize,
@@ -90,7 +90,7 @@ pub fn put(
     Ok(())
 }
 
-/// Makes room for the row of this number.
+/// Reserves capacity for the row with this index.
 pub fn grow(alloc: Global, rows: &mut Vec<Vec<usize>>, i: usize) -> Result<(), AllocError>
     ensures same { (j : ℕ) → kept_in rows.new.items j ≡ kept_in rows.old.items j }
     ensures within { OnOk result (i < length rows.new.items) }

@@ -5,7 +5,8 @@ ghost use Rattle.std.specs.Prelude.{◌≡◌, ◌<◌, ◌≤◌, ◌+◌, IfSo
 /// The greatest index and the most lanes that a bound speaks of.
 const MOST: usize = 4_294_967_295;
 
-/// Of the lane with this index the steps in front of a place, by 32 bits, since there are many bounds.
+/// Of the lane with this index the steps in front of an index, by 32 bits, since there are many
+/// bounds.
 #[derive(Clone, Copy)]
 pub struct LaneBound {
     pub lane: u32,

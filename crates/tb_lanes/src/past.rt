@@ -16,7 +16,7 @@ pub struct Past {
     pub ends: Ends,
     /// The ends by what waits for them.
     pub rows: Rows,
-    /// The number of the first end in whose lane no step went on: none of those in front of it is
+    /// The index of the first end in whose lane no step went on: none of those in front of it is
     /// the last of its lane.
     pub free: usize,
     /// The ends that were joined to the newest step.

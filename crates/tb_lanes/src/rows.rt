@@ -10,15 +10,15 @@ use crate::tasks::Tasks;
 use indexmap::IndexMap;
 use tb_model::{Kind, Place};
 
-/// What the ends of a row have in common: the number of the task that generates theirs, and 0 and
-/// 0, or an item of theirs, by a number and its cell.
+/// What the ends of a row have in common: the id of the task that generates theirs, and 0 and 0, or
+/// an item of theirs, by a code and its cell.
 pub type Key = (usize, u32, u32);
 
 /// The ends of a history by what they have in common.
 pub type Rows = IndexMap<Key, Ends>;
 
-/// The number of the task that generates that of the step at this place. The root counts as its
-/// own child.
+/// The id of the task that generates that of the step at this index. The root counts as its own
+/// child.
 pub fn parent_of(tasks: &Tasks, at: usize) -> usize
     requires shaped { IsShaped tasks.now }
     requires at { at < length tasks.now.numbers.items }
@@ -29,7 +29,7 @@ pub fn parent_of(tasks: &Tasks, at: usize) -> usize
     tasks.numbers[maker]
 }
 
-/// Two numbers for each kind: at a cell, and at all memory.
+/// Two codes for each kind: at a cell, and at all memory.
 fn kind_number(kind: Kind) -> u32
     ensures low { result ≤ 9 }
     ensures told { result ≡ is.kind_number kind }
@@ -43,7 +43,7 @@ fn kind_number(kind: Kind) -> u32
     }
 }
 
-/// The key of the ends of the children of a task that have an item of this kind at this place.
+/// The key of the ends of the children of a task that have an item of this kind at this index.
 pub fn item_key(parent: usize, kind: Kind, place: Place) -> Key
     ensures { result ≡ is.item_key parent kind place }
 {

@@ -4,13 +4,13 @@ ghost use Rattle.std.specs.Prelude.{◌≡◌, ◌≢◌, ◌<◌, ◌⊎◌, �
 ghost use Rattle.tb_lanes.specs.Clocks as is;
 ghost use Rattle.tb_lanes.specs.Clocks.{IsShaped, number};
 
-/// The steps of a history by their tasks. Where another step may stand, its place is given as one
+/// The steps of a history by their tasks. Where another step may be, its index is given as one
 /// more, and 0 for none.
 #[derive(Drop)]
 pub struct Tasks {
     /// For each step the newest in front of it that is of its task, or else generates it.
     pub previous: Vec<usize>,
-    /// The number of each step's task: each task has one of its own.
+    /// The id of each step's task: each task has one of its own.
     pub numbers: Vec<usize>,
     /// For each step the one that generates its task.
     pub origins: Vec<usize>,

@@ -13,7 +13,7 @@ use Rattle.tb_model.proofs.NeighboursLemmas.{or_swap}
 
 -- ---- the last link of a chain of needs
 
--- x, behind X, directly needs u, and is itself needed
+-- x, after X, directly needs u, and is itself needed
 record Last (v : Event) (H : History) (u : Event) (K : History) : Type 0 where
   who : Event
   front : History
@@ -68,7 +68,7 @@ module _ (H : History) (v : Event) where
       ∙ ap (λ b. mine || b)
       (sym (any_prepend (λ p. needs p.front p.event x) (is_removed (step_of (later ++ u ∷ K) w) H v) (record { event = w; front = later ++ u ∷ K }) (found later (u ∷ K))))
 
-  -- by the least relation, at any place of H
+  -- by the least relation, at any index of H
   to_needs : (later : History) (u : Event) (K : History) → H ≡ later ++ u ∷ K → is_removed (step_of K u) H v ≡ true → Needs (v ∷ H) (u ∷ K)
   to_needs later u K e h =
       subst (λ G. Needs (v ∷ G) (u ∷ K)) (sym e) ((removed_needs later v u K).0 (subst (λ G. is_removed (step_of K u) G v ≡ true) e h))

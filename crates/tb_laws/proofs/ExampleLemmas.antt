@@ -55,7 +55,7 @@ let_leaves_the_rest = refl
 spawn_takes_children : without (record { task = []; k = 2 }) race ≡ by [] Start ∷ []
 spawn_takes_children = refl
 
--- the store replaced the first number of cell 0, and is its last one
+-- the store replaced the first value of cell 0, and is its last one
 store_replaces : replaced_by (ℤ.pos 5 ∷ []) (by two Start ∷ []) (by two (Store 0 (ℤ.pos 9))) ≡ Some (ℤ.pos 5)
 store_replaces = refl
 
@@ -167,7 +167,8 @@ end_of_covered = refl
 end_of_uncovered : removed (record { task = one; k = 2 }) waited ≡ by one End ∷ []
 end_of_uncovered = refl
 
--- `in` of cell 0, `out` of all memory, `inoutset` of cell 1: the second comes behind the first and the third behind the second
+-- `in` of cell 0, `out` of all memory, `inoutset` of cell 1: the second comes after the first and
+-- the third after the second
 abbrev memory : History
 memory =
     by [] (Spawn (record { child = 3 ∷ []; body = 6; args = []; items = on Inoutset (Cell 1) ∷ []; deferred = true }))
@@ -208,7 +209,7 @@ wait_on = refl
 bad_address : planned program (by [] (Wait (on In (Cell 0) ∷ on Out All ∷ [])) ∷ spawned) [] (ℤ.pos 0) ≡ Fault
 bad_address = refl
 
--- it is well formed
+-- the program is well formed
 small_lines : (line : ℕ) → WellAt program (λ n. 0) 0 (instr_at program line).next (instr_at program line).otherwise (instr_at program line).statement
 small_lines zero = record { groups_open = refl; within = refl }
 small_lines (suc zero) = (refl, omega arith, record { groups_open = refl; within = refl })

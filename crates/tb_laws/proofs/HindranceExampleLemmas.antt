@@ -1,4 +1,4 @@
--- What keeps a task in small histories, by computation.
+-- What blocks a task in small histories, by computation.
 use Rattle.std.proofs.Common.{◌≡◌, List, [], ◌∷◌, refl, ℤ, true, false, Some, None}
 use Rattle.tb_model.specs.declared.kind.Kind.{Kind}
 use Rattle.tb_model.specs.declared.kind.Kind.TheVariants.{In, Out, Mutexinoutset}
@@ -41,7 +41,7 @@ by_parent = refl
 
 -- ---- one hindrance of each kind
 
--- 0.1 and 0.2 are `in`, 0.3 is `out`, and 0.4 is behind it
+-- 0.1 and 0.2 are `in`, 0.3 is `out`, and 0.4 is after it
 abbrev chain : History
 chain =
     by [] (Spawn (record { child = four; body = 5; args = []; items = on In; deferred = true })) ∷ by [] (Spawn (record { child = three; body = 5; args = []; items = on Out; deferred = true })) ∷ by [] (Spawn (record { child = two; body = 5; args = []; items = on In; deferred = true }))
@@ -57,7 +57,7 @@ writer_waits = refl
 waits_for_the_other : in_the_way (by one Fault ∷ by one Start ∷ chain) three Start ≡ Some (Waiting two)
 waits_for_the_other = refl
 
--- a child that was generated keeps a wait, and no print
+-- a child that was generated blocks a wait, and no print
 wait_for_all : in_the_way chain [] (Wait []) ≡ Some (Children one)
 wait_for_all = refl
 
@@ -148,7 +148,7 @@ root_goes_on = refl
 wait_is_next : next_action program worked [] ≡ Wait []
 wait_is_next = refl
 
--- a load reads what was stored last, and the first number where nothing was
+-- a load reads what was stored last, and the first value where nothing was
 load_is_next : next_action program (by [] (Wait []) ∷ worked) [] ≡ Load 0 0 (ℤ.pos 6)
 load_is_next = refl
 

@@ -16,7 +16,7 @@ one_place (Cell c) (Cell d) h = inl (ap Cell (eqb-true c d h))
 one_place (Cell c) All h = inr (inr refl)
 one_place All q h = inr (inl refl)
 
--- both cells, so neither is all memory
+-- two cells, of which neither is all memory
 cells_same : (c d : ℕ) → IsOnePlace (Cell c) (Cell d) → (c == d) ≡ true
 cells_same c d h = ⊎_elim (λ e. eq-eqb c d (number e)) (λ r. ⊎_elim (λ e. cc e) (λ e. cc e) r) h
   where
@@ -45,7 +45,7 @@ module _ (test : Relation → Bool) (r : Relation) (only : (x : Relation) → te
   from_pair i j p =
       and_from (same_place i.place j.place) (test (relation i.kind j.kind)) (place_same i.place j.place p.0) (ap test p.1 ∙ passes)
 
-  -- then the test decides whether some pair stands so
+  -- then the test decides whether some pair is so
   pub decides : (new old : List Item) → (some_meet test new old ≡ true) ↔ Relates r new old
   decides new old = (
     λ h. any_mono (λ i. list_any (meets test i) old ≡ true) (λ i. Any (λ j. Pair i j) old)

@@ -6,7 +6,7 @@ use Rattle.tb_model.specs.declared.entry.Entry.TheVariants.{Opened, Stepped, Rol
 use Rattle.tb_model.specs.Journal.{hist, Sound}
 use Rattle.tb_model.proofs.NextLemmas.{removal_for}
 
--- each entry keeps the history legal
+-- each entry leaves the history legal
 pub journal_legal : (P : Program) (J : List Entry) → Sound P J → LegalFor P (hist J)
 journal_legal P [] s = absurd s
 journal_legal P (Opened ∷ J) s = (tt, tt)

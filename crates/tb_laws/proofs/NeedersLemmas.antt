@@ -14,9 +14,9 @@ use Rattle.tb_model.proofs.LeastLemmas.{later_not_step}
 use Rattle.tb_model.proofs.UndoLemmas.{Single, single, singled}
 use Rattle.tb_laws.proofs.OrderedLemmas.{the_step}
 
--- ---- where a step stands
+-- ---- where a step is
 
--- the place of a step
+-- the index of a step
 pub record Standing (e : StepId) (H : History) : Type 0 where
   pub later : History
   pub event : Event
@@ -24,7 +24,7 @@ pub record Standing (e : StepId) (H : History) : Type 0 where
   pub split : H ≡ later ++ event ∷ front
   pub step : step_of front event ≡ e
 
--- a step that stands is some event with what is behind it and in front of it
+-- a step that is there is some event with what is after it and in front of it
 pub standing : (e : StepId) (H : History) → stands e H ≡ true → Standing e H
 standing e [] s = cc
 standing e (v ∷ H) s =
@@ -57,7 +57,7 @@ module _ (v : Event) (front : History) where
       none_first (first_needer (step_of front v) front) (is_needer (step_of front v) front v) (step_of front v) (none_absent (step_of front v) front (omega arith))
       (ap (λ s. not s && list_any (needs front v) (removed (step_of front v) front)) (its_step front v))
 
-  -- what goes with v beside it needs it
+  -- what goes with v next to it needs it
   needer_behind : (b : History) (w : Event) → is_needer (step_of front v) (b ++ v ∷ front) w ≡ list_any (needs (b ++ v ∷ front) w) (removed (step_of front v) (b ++ v ∷ front))
   needer_behind b w =
       ap (λ s. not s && list_any (needs (b ++ v ∷ front) w) (removed (step_of front v) (b ++ v ∷ front))) (later_not_step v front b w)
@@ -77,7 +77,7 @@ module _ (v : Event) (front : History) where
       let n = sym (ap (list_any (needs (b ++ v ∷ front) w)) below.gone) ∙ sym (needer_behind b w) ∙ o.1 in
       singled v front (w ∷ b) (below.free, (or_parts (needs (b ++ v ∷ front) w v) false n).0)
 
--- both ways, at the place where the step stands
+-- nothing needs a step exactly where it has no first needer, wherever the step is
 pub unneeded : (e : StepId) (H : History) → stands e H ≡ true → IsUnneeded e H ↔ (first_needer e H ≡ None)
 unneeded e H s =
     let r = standing e H s in
@@ -88,7 +88,7 @@ unneeded e H s =
 -- ---- the earliest that needs a step needs it directly
 
 module _ (v : Event) (front : History) where
-  -- behind a history in which none needs v
+  -- after a history in which none needs v
   pub next_needer : (b : History) (w : Event) → first_needer (step_of front v) (b ++ v ∷ front) ≡ None
       → first_needer (step_of front v) (w ∷ (b ++ v ∷ front)) ≡ (if needs (b ++ v ∷ front) w v then Some (step_of (b ++ v ∷ front) w) else None)
   next_needer b w h =

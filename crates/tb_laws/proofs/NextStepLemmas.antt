@@ -22,16 +22,16 @@ use Rattle.tb_laws.proofs.WellFormedLemmas.{what_fits, no_dead_end_for}
 use Rattle.tb_model.proofs.LeastNameLemmas.{least_found}
 use Rattle.tb_model.proofs.HindranceLemmas.{nothing_in_the_way, nothing_keeps}
 
--- ---- a statement's action, by the number that a load reads
+-- ---- a statement's action, by the value that a load reads
 
--- it is one action, which is no load
+-- what is planned is one action, which is no load
 record IsOne (f : ℤ → Action) : Type 0 where
   action : Action
   same : (x : ℤ) → f x ≡ action
   reads : (cells : Cells) (H : History) → loaded action ≡ number_read cells H action
   zero : loaded action ≡ zero_ℤ
 
--- it is a load of one cell
+-- what is planned is a load of one cell
 record IsLoad (f : ℤ → Action) : Type 0 where
   register : ℕ
   cell : ℕ
@@ -67,7 +67,7 @@ module _ (cells : Cells) (H : History) (t : Name) (f : ℤ → Action) where
   abbrev number : ℤ
   number = number_read cells H (f zero_ℤ)
 
-  -- the number that a load reads is its cell's
+  -- the value that a load reads is its cell's
   load_number : (r : IsLoad f) → number ≡ last (first_number cells r.cell) r.cell H
   load_number r = ap (number_read cells H) (r.same zero_ℤ)
 
@@ -84,12 +84,12 @@ module _ (cells : Cells) (H : History) (t : Name) (f : ℤ → Action) where
   says (inl r) = r.same number ∙ sym (r.same (loaded (f number)))
   says (inr r) = ap f (sym (ap loaded (r.same number)))
 
-  -- which is the cell's number
+  -- which is the cell's value
   reads_number : Reads f → loaded (f number) ≡ number_read cells H (f number)
   reads_number (inl r) = ap loaded (r.same number) ∙ r.reads cells H ∙ sym (ap (number_read cells H) (r.same number))
   reads_number (inr r) = ap loaded (r.same number) ∙ load_number r ∙ sym (ap (number_read cells H) (r.same number))
 
-  -- and what keeps the task from it doesn't depend on the number
+  -- and what blocks it doesn't depend on the value
   kept_alike : Reads f → in_the_way H t (f zero_ℤ) ≡ in_the_way H t (f number)
   kept_alike (inl r) = ap (in_the_way H t) (r.same zero_ℤ ∙ sym (r.same number))
   kept_alike (inr r) = ap (in_the_way H t) (r.same zero_ℤ) ∙ sym (ap (in_the_way H t) (r.same number))
@@ -169,7 +169,7 @@ module _ (P : Program) (w : WellFormed P) (H : History) (l : LegalFor P H) where
       let r = least_found H (can_step P H) (λ t h. may_spawned P.cells H (next_event P H t) l.0 (able_next t h).may) in
       record { found = λ t e. able_next t (r.found t e); least = λ t n. r.least t (next_able t n) }
 
-  -- no task is ready once all have ended, and only then
+  -- no task is runnable once all have ended, and only then
   none_ready : least_ready P H ≡ None → (t : Name) → IsSpawned H t → HasEnded H t
   none_ready e = no_dead_end_for P w H l (λ v n.
       let m = ready_least.least v.task (subst (IsNext P H) (next_computed P H v n) n) in

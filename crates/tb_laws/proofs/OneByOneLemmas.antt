@@ -14,7 +14,7 @@ use Rattle.tb_model.proofs.RemovalLemmas.{part, needs_up}
 use Rattle.tb_model.proofs.LeastLemmas.{passing}
 use Rattle.tb_model.proofs.UndoLemmas.{AreFree, singled}
 
--- a later part stays as it is over a rest that is put behind it
+-- a later part stays as it is over a rest that is put after it
 parts_append : {xs ks rs : History} (ys : History) → Parts xs ks rs → Parts (xs ++ ys) (ks ++ ys) rs
 parts_append ys parts.none = all_stay ys
 parts_append ys (parts.stays s) = parts.stays (parts_append ys s)
@@ -73,7 +73,7 @@ kept_more e (w ∷ later) u front =
     prepended true = refl
     prepended false = refl
 
--- all that is kept from the beginning is what is left without the step
+-- all that stays from the beginning on is what is left without the step
 pub kept_whole : (e : StepId) (H : History) → kept e H [] ≡ without e H
 kept_whole e [] = refl
 kept_whole e (w ∷ H) = ap₂ (λ G K. prepend_if (not (is_removed e G w)) w K) (append-nil H) (kept_whole e H)

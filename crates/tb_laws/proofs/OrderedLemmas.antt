@@ -1,4 +1,4 @@
--- One pass over the events finds whether all direct needs stand in order.
+-- One pass over the events finds whether all direct needs come in order.
 use Rattle.std.proofs.Common.{◌≡◌, suc, [], ◌∷◌, Bool, true, false, ◌&&◌, ◌||◌, not, ⊎_elim, refl, sym, ap, ◌∙◌, subst, length, ◌==◌, eqb-true}
 use Rattle.std.proofs.lemmas.Bool.{or_cases, or_left, or_right, and_parts, and_from, false≢true}
 use Rattle.tb_model.specs.declared.event.Event.{Event}

@@ -140,7 +140,7 @@ module _ (P : Program) (depth : ℕ → ℕ) (t : Name) (acts : List Action) (k 
       at false = λ e. w.1
   lands x DoEnd n w = λ e. absurd (false≢true (sym e))
 
--- ---- where each task stands
+-- ---- where each task is
 
 abbrev pub Placed : (P : Program) → (ℕ → ℕ) → List Action → Config → Type 0
 Placed P depth [] c = Begins P c.line
@@ -216,7 +216,7 @@ module _ (P : Program) (w : WellFormed P) where
   fresh t line args [] e b = b
   fresh t line args (a ∷ acts) e b = cc e
 
-  -- each task stands at a line that fits its own actions
+  -- each task is at a line that fits its own actions
   pub stands : (H : History) (t : Name) → LegalFor P H → Stands H t
   stands [] t l = w.root
   stands (v ∷ H) t l = at (is_of t v) refl (stands H t (l.0.0, l.1.0))
@@ -247,7 +247,7 @@ module _ (P : Program) (w : WellFormed P) where
 
   -- ---- no dead end
 
-  -- the number that a load would read
+  -- the value that a load would read
   abbrev read_by : History → Action → ℤ
   read_by H (Load r c x) = last (first_number P.cells c) c H
   read_by H _ = ℤ.pos 0
@@ -269,7 +269,7 @@ module _ (P : Program) (w : WellFormed P) where
   starts_only t k regs x (DoTest q) b = absurd (false≢true b)
   starts_only t k regs x DoEnd b = absurd (false≢true b)
 
-  -- a load that is wanted reads the cell's number, and the number is what the action says
+  -- a load that is wanted reads the cell's value, and the value is what the action says
   record Reading (H : History) (f : ℤ → Action) : Type 0 where
     reads : (r c : ℕ) (x : ℤ) → f (read_by H (f (ℤ.pos 0))) ≡ Load r c x → x ≡ last (first_number P.cells c) c H
     says : f (read_by H (f (ℤ.pos 0))) ≡ f (loaded (f (read_by H (f (ℤ.pos 0)))))

@@ -48,7 +48,7 @@ pub fn equivalent_without()
         Legal cells G → Legal cells H → Equivalent G H → Equivalent (without e G) (without e H) }
 {}
 
-/// One pass finds whether the direct needs of one history stand in their order in another.
+/// One pass finds whether the direct needs of one history come in their order in another.
 pub fn ordered_by_pass()
     ensures { (G H : History) → IsTrue (ordered H G)
         ↔ ((i j : StepId) → IsTrue (needs_in i j G) → IsTrue (comes_first j i H)) }

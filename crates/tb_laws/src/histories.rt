@@ -13,7 +13,7 @@ pub fn reading()
     ensures { (cells : Cells) (H : History) → Legal cells H ↔ Rules cells H }
 {}
 
-/// A task's next event is the one behind which the history is still legal for the program.
+/// A task's next event is the one after which the history is still legal for the program.
 pub fn next_is_legal()
     ensures { (P : Program) (H : History) (v : Event) →
         LegalFor P H → IsNext P H v ↔ LegalFor P (v ∷ H) }
@@ -26,7 +26,7 @@ pub fn one_next()
         IsNext P H v → IsNext P H w → v.task ≡ w.task → v ≡ w }
 {}
 
-/// A run is settled by who takes its steps: there is one legal history with a given sequence of
+/// A run is settled by who executes its steps: there is one legal history with a given sequence of
 /// tasks.
 #[tactic(auto, using(tb_model::proofs::ForProgramLemmas::one_run))]
 pub fn one_run()

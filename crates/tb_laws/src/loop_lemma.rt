@@ -17,8 +17,8 @@ pub fn step_then_undo()
     ensures { (H : History) (v : Event) → without (step_of H v) (v ∷ H) ≡ H }
 {}
 
-/// The undo of a step that nothing needs removes that step alone, wherever it stands. Taken again
-/// it stands at the end, and all else is as before.
+/// The undo of a step that nothing needs removes that step alone, wherever it is. Executed again it
+/// is at the end, and all else is as before.
 pub fn undo_then_step()
     ensures undone { (later front : History) (v : Event) →
         IsUnneeded (step_of front v) (later ++ v ∷ front) →
@@ -28,7 +28,7 @@ pub fn undo_then_step()
         IsReordering cells (later ++ v ∷ front) (v ∷ (later ++ front)) }
 {}
 
-/// Taken again, it leaves each task at its line.
+/// Executed again, it leaves each task at its line.
 #[tactic(auto, using(tb_model::proofs::LinesLemmas::line_again))]
 pub fn line_again()
     ensures { (body : ℕ) (t : Name) (later front : List Departure) (d : Departure) →
@@ -37,7 +37,7 @@ pub fn line_again()
         line_of body t (later ++ d ∷ front) ≡ line_of body t (d ∷ (later ++ front)) }
 {}
 
-/// For a program the step that was undone is its task's next one, with the same numbers.
+/// For a program the step that was undone is its task's next one, with the same values.
 pub fn undo_then_next()
     ensures next { (P : Program) (later front : History) (v : Event) →
         LegalFor P (later ++ v ∷ front) → IsUnneeded (step_of front v) (later ++ v ∷ front) →

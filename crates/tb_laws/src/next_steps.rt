@@ -1,4 +1,4 @@
-//! The next step: which event it is, and what keeps a task from it.
+//! The next step: which event it is, and what blocks it.
 
 ghost use Rattle.std.specs.Prelude.{◌≡◌, ◌↔◌, Bool, Option, Some, None, IsTrue};
 ghost use Rattle.tb_model.specs.declared.action.Action.{Action};
@@ -21,8 +21,8 @@ pub fn least()
     ensures antisymmetric { (t u : Name) → IsAtMost t u → IsAtMost u t → t ≡ u }
 {}
 
-/// What keeps a task from an action is the first hindrance in the order of refusals, and names the
-/// least task of its kind.
+/// What blocks a task's action is the first hindrance in the order of refusals, and names the least
+/// task of its kind.
 #[tactic(auto, using(tb_model::proofs::HindranceLemmas::in_the_way_hinders))]
 pub fn in_the_way()
     ensures { (H : History) (t : Name) (a : Action) (h : Hindrance) →

@@ -49,7 +49,7 @@ pub fn removal_for()
         LegalFor P H → LegalFor P (without e H) }
 {}
 
-/// What is left keeps its lines.
+/// What is left retains its lines.
 #[tactic(auto, using(tb_model::proofs::LinesLemmas::events_left, tb_model::proofs::LinesLemmas::lines_left))]
 pub fn lines_left()
     ensures events { (e : StepId) (D : List Departure) →
@@ -58,7 +58,7 @@ pub fn lines_left()
         LinesFit P D → LinesFit P (without_lines e D) }
 {}
 
-/// What is left keeps its records: what an event replaced is the same behind the shorter history.
+/// What is left retains its records: what an event replaced is the same after the shorter history.
 #[tactic(auto, using(tb_model::proofs::RecordsLemmas::record_stays))]
 pub fn record_stays()
     ensures { (cells : Cells) (e : StepId) (H : History) (v : Event) →
@@ -72,7 +72,7 @@ pub fn unneeded()
         IsUnneeded e H ↔ (first_needer e H ≡ None) }
 {}
 
-/// The earliest step that needs a step needs it directly: behind a history in which none needs it,
+/// The earliest step that needs a step needs it directly: after a history in which none needs it,
 /// an event is the first exactly where it directly needs it, and stays the first.
 #[tactic(auto, using(crate::proofs::NeedersLemmas::none_here, crate::proofs::NeedersLemmas::next_needer, crate::proofs::NeedersLemmas::needer_stays))]
 pub fn first_needs_directly()
@@ -99,8 +99,8 @@ pub fn one_by_one()
     ensures whole { (e : StepId) (H : History) → kept e H [] ≡ without e H }
 {}
 
-/// By its record alone a step is taken back: the cell or the register has its former number, and
-/// no other has changed.
+/// By its record alone a step is taken back: the cell or the register has its former value, and no
+/// other has changed.
 #[tactic(auto, using(tb_model::proofs::RecordsLemmas::cell_taken_back, tb_model::proofs::RecordsLemmas::register_taken_back))]
 pub fn record_takes_back()
     ensures cell { (cells : Cells) (H : History) (v : Event) (c : ℕ) →

@@ -21,7 +21,7 @@ ghost use Rattle.tb_model.specs.Lines.{Departure, events_of, line_of, LinesFit};
 
 /// Two items that name one storage location are free of each other where both are `in` or both
 /// `inoutset`; they exclude each other where both are `mutexinoutset`; else the later one's task
-/// depends on the earlier one's. The tests decide whether some pair of items stands so.
+/// depends on the earlier one's. The tests decide whether some pair of items relates so.
 pub fn table()
     ensures free { (new old : Kind) → (relation new old ≡ Free)
         ↔ (((new ≡ In) × (old ≡ In)) ⊎ ((new ≡ Inoutset) × (old ≡ Inoutset))) }
@@ -60,7 +60,7 @@ pub fn items_of_spawn()
         Legal cells H → items_of t H ≡ items_in (spawn_of t H) }
 {}
 
-/// How siblings stand to each other, and which of them a `taskwait` waits for, is settled by the
+/// How siblings relate to each other, and which of them a `taskwait` waits for, is settled by the
 /// items that their parent gave them.
 pub fn siblings_by_parent()
     ensures items { (cells : Cells) (H : History) (t : Name) (n : ℕ) → Legal cells H →
@@ -81,7 +81,7 @@ pub fn open_group()
         groups acts ≡ map (λ k. children_since k acts) (open_groups acts) }
 {}
 
-/// The members of an open group are told by one number, that of the owner's last child when the
+/// The members of an open group are known by one ordinal, that of the owner's last child when the
 /// group was opened.
 #[tactic(auto, using(tb_model::proofs::MembersLemmas::members_by_number))]
 pub fn members_by_number()
@@ -99,7 +99,7 @@ pub fn status()
         list_any (ends t) H ≡ is_over (status_of (own t H)) }
 {}
 
-/// Without the program: a register has the number of the last `let` or `load` to it, else the
+/// Without the program: a register has the value of the last `let` or `load` to it, else the
 /// argument, else 0.
 #[tactic(auto, using(tb_model::proofs::LinesLemmas::registers))]
 pub fn registers()
@@ -107,7 +107,7 @@ pub fn registers()
         slice_index_or (config P line args acts).regs r (ℤ.pos 0) ≡ register r args acts }
 {}
 
-/// Without the program: a history that keeps its lines tells the line at which each task stands.
+/// Without the program: a history that retains its lines says the line at which each task is.
 #[tactic(auto, using(tb_model::proofs::LinesLemmas::line_kept))]
 pub fn line_kept()
     ensures { (P : Program) (D : List Departure) (t : Name) →

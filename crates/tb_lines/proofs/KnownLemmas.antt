@@ -24,7 +24,7 @@ consumes_trans (Some x) None c bs cs p q = absurd p
 consumes_trans (Some x) (Some y) None bs cs p q = absurd q
 consumes_trans (Some x) (Some y) (Some z) bs cs p q = p ∙ ap (λ l. bs ++ l) q ∙ sym (append_assoc bs cs z)
 
--- kept bytes are bytes of which nothing was taken, and to which nothing was added
+-- retained bytes are bytes of which nothing was taken, and to which nothing was added
 pub consumes_kept : (a b c : Option (List ℕ)) (bs : List ℕ) → Consumes a b bs → Keeps b c → Consumes a c bs
 consumes_kept None b c bs p q = tt
 consumes_kept (Some x) None c bs p q = absurd p

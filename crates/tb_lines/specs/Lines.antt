@@ -30,7 +30,7 @@ AreUnbroken lines = AllByRecursion IsUnbroken lines
 abbrev pub most_ahead : ℕ
 most_ahead = 8192
 
--- behind the piece stands its line feed, or nothing
+-- after the piece is its line feed, or nothing
 abbrev pub rest_behind : Bool → List ℕ → List ℕ
 rest_behind true rest = 10 ∷ rest
 rest_behind false rest = rest

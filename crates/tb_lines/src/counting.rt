@@ -29,7 +29,7 @@ impl<R: Read> Source for CountedReader<R> {
 }
 
 /// A writer, and how many of its calls failed. A reply reaches its reader at once only where the
-/// writer keeps nothing back, as the standard output of a `HostRuntime` does.
+/// writer holds nothing back, as the standard output of a `HostRuntime` does.
 #[derive(Drop)]
 pub struct CountedWriter<W> {
     pub inner: W,

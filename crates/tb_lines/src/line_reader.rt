@@ -27,7 +27,7 @@ pub enum LineFault {
 pub enum LineEnd {
     /// A line feed.
     Feed,
-    /// The end of what comes. The line is empty where nothing stands behind the last line feed.
+    /// The end of what comes. The line is empty where nothing is after the last line feed.
     Input,
 }
 
@@ -49,7 +49,7 @@ impl Model for LineReader {
     ghost invariant = { λ r. (r.start ≤ r.end) × (r.end ≤ 8192) };
 }
 
-/// How many bytes stand in front of the first line feed, or all where there is none.
+/// How many bytes are before the first line feed, or all where there is none.
 fn line_len(bytes: &[u8]) -> usize
     ensures len { result ≡ position_or_len is_line_feed bytes.now }
     ensures within { result ≤ length bytes.now }
@@ -69,7 +69,7 @@ impl LineReader {
         }
     }
 
-    /// Reads more where nothing is held, and tells whether anything is held then.
+    /// Reads more where nothing is held, and returns whether anything is held then.
     #[tactic(auto, using(crate::proofs::PieceLemmas::few_held))]
     fn fill<S: Source>(&mut self, source: &mut S) -> Result<bool, Failed>
         requires { S.failures source.old < 2 ^ 64 - 1 }
@@ -92,7 +92,7 @@ impl LineReader {
         Ok(self.end > 0)
     }
 
-    /// Moves what is held, up to the first line feed, to the end of the line, and tells whether
+    /// Moves what is held, up to the first line feed, to the end of the line, and returns whether
     /// there was one.
     #[tactic(auto, using(crate::proofs::PieceLemmas::few_held))]
     fn take_piece(&mut self, line: &mut Vec<u8>) -> Result<bool, AllocError>

@@ -44,7 +44,7 @@ use Rattle.tb_live.proofs.RunLemmas.{shown, has_place}
 use Rattle.tb_live.proofs.StepLemmas.{Keeps, by_some, entered, refused, stays, no_plan}
 use Rattle.tb_live.proofs.WorkLemmas.{config_so}
 
--- what the core finds in the way keeps the task from its action
+-- what the core finds in the way blocks the task's action
 pub kept_from : (run : Seen) (p : Plan) (full : Bool) (e : StepRefusal) → IsKept run p e → (run.limit ≤ length run.steps → full ≡ true) → IsKeptFrom run p full e
 kept_from run p full Full k h = (k.0, k.1, h k.2)
 kept_from run p full Memory k h = (λ current clear. absurd (named k current clear), λ g hindered. long k g hindered)
@@ -58,7 +58,7 @@ kept_from run p full Memory k h = (λ current clear. absurd (named k current cle
     named (inr (h, hindered, long)) current clear = cc (clear, hindered.hindrance)
 kept_from run p full _ k h = k
 
--- nothing keeps a plan that is open
+-- nothing blocks a plan that is open
 pub open_wants : (run : Seen) (p : Plan) (full : Bool) → IsOpen run p → full ≡ false → IsKeptFrom run p full Memory
 open_wants run p full o f = (λ current clear. f, λ h hindered. absurd (clash h (sym o.clear ∙ hindered.hindrance)))
   where
@@ -68,12 +68,12 @@ open_wants run p full o f = (λ current clear. f, λ h hindered. absurd (clash h
 pub open_full : (run : Seen) (p : Plan) (full : Bool) → IsOpen run p → full ≡ true → IsKeptFrom run p full Full
 open_full run p full o f = (o.current, o.clear, f)
 
--- so the journal does, or want of memory
+-- what refuses a plan is what the core says, and else the journal or want of memory
 pub refusal_from : (run : Seen) (p : Plan) (full : Bool) (o : Option StepRefusal) (e r : StepRefusal) → r ≡ unwrap_or o e → IfSome o (IsKept run p) → IfNone o (IsOpen run p) → (run.limit ≤ length run.steps → full ≡ true) → (IsOpen run p → IsKeptFrom run p full e) → IsKeptFrom run p full r
 refusal_from run p full (Some q) e r is some none few whole = subst (IsKeptFrom run p full) (sym is) (kept_from run p full q some few)
 refusal_from run p full None e r is some none few whole = subst (IsKeptFrom run p full) (sym is) (whole none)
 
--- the core refuses the step, where the journal has a place
+-- the core refuses the step, where the journal has a slot
 pub refuses_from : (run : Seen) (p : Plan) (full : Bool) (e : StepRefusal) → full ≡ false → (run.limit ≤ length run.steps → ⊥) → core_outcomes.Refuses run p e → IsKeptFrom run p full e
 refuses_from run p full Full f few k = absurd (few k.2)
 refuses_from run p full Memory f few (inl o) = open_wants run p full o f
@@ -91,7 +91,7 @@ readied_so limit P c entries spare p v f native same room o = record {
   free = room.free;
 }
 
--- what is readied for the plan serves as what is prepared
+-- what is reserved for the plan serves as what is prepared
 pub room_so : (limit : ℕ) (P : Program) (c : HeldCore) (entries : List Entry) (spare : ℕ) (p : Plan) (v : Event) → Fits P c.run → IsNative P c.run p → IsReadied limit c p entries spare v → HasStepRoom limit P c entries spare v
 room_so limit P c entries spare p v f native r =
     let next : v ≡ next_event P (core.history c.run) p.config.task = r.event ∙ native_next P c.run p f native r.is_open.current.here in
@@ -102,7 +102,7 @@ room_so limit P c entries spare p v f native r =
       free = r.free;
     }
 
--- ---- the same, told of the session
+-- ---- the same, said of the session
 
 module _ (P : Program) (limit : ℕ) (entries : List Entry) (before : Control) (run : Seen) (s : Session) (shows : shown P limit entries before ≡ s) (sound : IsSound P limit (reverse entries) run) (seat : ℕ) (p : Plan) where
   abbrev t : Name
@@ -199,7 +199,7 @@ module _ (P : Program) (limit : ℕ) (entries : List Entry) (before : Control) (
     native_refused Full k = (up_to_date k.0, refused_so k.0 Full k)
     native_refused e k = (up_to_date k.current, refused_so k.current e k)
 
-    -- nothing keeps the task from a plan that may be committed
+    -- nothing blocks the task of a plan that may be committed
     pub may_open : MayCommit s seat p → IsOpen run p
     may_open m = record {
       current = current_at m.up_to_date;
@@ -268,7 +268,7 @@ live_prepares seat P limit entries before run s shows sound p claimed native hel
           omega (arith, within, sound.bound, ap (λ z. length z.journal) same, ap (λ (z : Session). length z.journal) shows, length-reverse entries);
     }
 
--- a claim that stands in a run that goes on
+-- a claim that holds in a run that goes on
 pub claimed_so : (P : Program) (limit : ℕ) (entries : List Entry) (before : Control) (s : Session) → shown P limit entries before ≡ s → (seat : ℕ) (p : Plan) (paused held : Bool) → paused ≡ is_paused before.mode → paused ≡ false
     → (held ≡ true) ↔ (claim_of before.claims seat ≡ Some p.config.task) → held ≡ true → IsClaimed s seat p
 claimed_so P limit entries before s shows seat p paused held e going f h = record {
@@ -276,7 +276,7 @@ claimed_so P limit entries before s shows seat p paused held e going f h = recor
   claims = ap (λ (z : Session). claim_of z.control.claims seat) (sym shows) ∙ f.0 h;
 }
 
--- what is readied for the plan is kept
+-- what is reserved for the plan is retained
 pub room_kept : (limit : ℕ) (P : Program) (old new : HeldCore) (entries pushed : List Entry) (spare : ℕ) (p : Plan) (v copy : Event) → Fits P old.run → IsNative P old.run p → new.run ≡ old.run → pushed ≡ entries → copy ≡ v
     → IsReadied limit new p entries spare v → HasStepRoom limit P new pushed spare copy
 room_kept limit P old new entries pushed spare p v copy f native same kept copied r =

@@ -22,7 +22,7 @@ use Rattle.tb_live.specs.Entering.{Enters, IsKeptFrom, has_no_place}
 use Rattle.tb_next.specs.Plans.{IsStepOf}
 use Rattle.tb_next.proofs.ComingLemmas.{kept_of, way_so}
 
--- ---- whether the journal has a place
+-- ---- whether the journal has a slot
 
 pub no_place : (limit : ℕ) (entries : List Entry) → limit ≤ length entries → has_no_place limit entries ≡ true
 no_place limit entries h = grind (arith, nat_tests)
@@ -57,7 +57,7 @@ memory_enters limit seat run new t m p entries pushed before after says clear sa
     clash : (h : Hindrance) → ◌≡◌ {A = Option Hindrance} None (Some h) → ⊥
     clash h z = cc
 
--- what keeps the task comes before a full journal
+-- what blocks the task comes before a full journal
 pub kept_from : (run : Seen) (t : Name) (m : Coming) (p : Plan) (full : Bool) (e : StepRefusal) → IsStepOf t m p → IsCurrent run p → IsKeptBy run t m.action e → IsKeptFrom run p full e
 kept_from run t m p full Full says current k = absurd (none k.named)
   where

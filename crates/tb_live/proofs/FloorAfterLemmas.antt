@@ -1,4 +1,4 @@
--- The floor after a step that is entered.
+-- The search start after a step that is entered.
 use Rattle.std.proofs.Common.{◌≡◌, ℕ, List, sym, subst, Option}
 use Rattle.std.specs.Prelude.{Result, Ok, Err, OnOk, OnErr}
 use Rattle.tb_model.specs.declared.entry.Entry.{Entry}
@@ -17,7 +17,7 @@ use Rattle.tb_next.specs.Fitting.{Fits}
 use Rattle.tb_next.proofs.FloorStepLemmas.{floor_stepped}
 use Rattle.tb_next.proofs.NativeLemmas.{native_plan}
 
--- its memory is taken
+-- the search start stays where only memory is taken
 pub floor_readied : (P : Program) (run new : Seen) (old now : Option Name) → new ≡ run → now ≡ old → IsFloor P (core.history run) old → IsFloor P (core.history new) now
 floor_readied P run new old now same kept floor = subst (λ (z : Seen). IsFloor P (core.history z) now) (sym same) (subst (IsFloor P (core.history run)) (sym kept) floor)
 
@@ -28,7 +28,7 @@ floor_after limit seat P run new t p entries pushed before after (Ok i) f plan e
 floor_after limit seat P run new t p entries pushed before after (Err r) f plan e old now carried stays floor =
     floor_readied P run new old now e.0 stays floor
 
--- the floor after a step of a plan of the program
+-- the search start after a step of a plan of the program
 pub floor_committed : (limit seat : ℕ) (P : Program) (run new : Seen) (p : Plan) (entries pushed : List Entry) (before after : Control) (result : Result StepId StepRefusal) → Fits P run → IsNative P run p
     → Enters limit seat run p new entries pushed before after result → (old now : Option Name) → OnOk result (IsCarried (core.history new) old now) → OnErr result (now ≡ old) → IsFloor P (core.history run) old → IsFloor P (core.history new) now
 floor_committed limit seat P run new p entries pushed before after (Ok i) f native e old now carried stays floor =

@@ -1,4 +1,4 @@
--- A seat that goes on with its task behind a commit.
+-- A seat that goes on with its task after a commit.
 use Rattle.std.proofs.Common.{◌≡◌, ◌<◌, ℕ, zero, suc, List, [], ◌∷◌, Bool, true, set, length, reverse, refl, sym, ap, ◌∙◌, subst, Some, None, Option, arith}
 use Rattle.std.specs.Prelude.{Result, Ok, Err}
 use Rattle.std.proofs.lemmas.List.{map-set, set-get_or, length-map, length-set, reverse-append}

@@ -63,9 +63,9 @@ roll_there None seat i h = absurd h
 roll_there (Some (Step whose v)) seat i h = absurd h
 roll_there (Some (Roll whose j r)) seat i h = refl
 
--- ---- the room for it
+-- ---- the capacity for it
 
--- the event that is prepared has room
+-- the event that is prepared has capacity
 pub event_room : (limit : ℕ) (P : Program) (c : Held) (entries : List Entry) (spare : ℕ) (o : Option Prepared) (seat : ℕ) (t : Name) (v : Event) → HasRoom limit P c entries spare o → HoldsStep o seat t → held_event o ≡ Some v
     → (v.task ≡ t) × HasStepRoom limit P c entries spare v
 event_room limit P c entries spare None seat t v room h e = absurd h
@@ -74,13 +74,13 @@ event_room limit P c entries spare (Some (Step whose u)) seat t v room h e =
     (ap (λ (x : Event). x.task) (sym z) ∙ h.1, subst (HasStepRoom limit P c entries spare) z room)
 event_room limit P c entries spare (Some (Roll whose i r)) seat t v room h e = absurd h
 
--- the rollback that is prepared has its names, and a place is free for its entry
+-- the rollback that is prepared has its names, and a slot is free for its entry
 pub may_roll : (limit : ℕ) (P : Program) (c : Held) (entries : List Entry) (spare : ℕ) (o : Option Prepared) (seat : ℕ) (i : StepId) → HasRoom limit P c entries spare o → HoldsRoll o seat i → MayRoll spare i o
 may_roll limit P c entries spare None seat i room h = absurd h
 may_roll limit P c entries spare (Some (Step whose u)) seat i room h = absurd h
 may_roll limit P c entries spare (Some (Roll whose j r)) seat i room h = (room.free, ap₂ (λ (a b : StepId). Some (a, b)) h.1 (room.step ∙ h.1))
 
--- more places serve as well
+-- more slots serve as well
 pub room_more : (limit : ℕ) (P : Program) (c : Held) (entries : List Entry) (spare more : ℕ) (o : Option Prepared) → spare ≤ more → HasRoom limit P c entries spare o → HasRoom limit P c entries more o
 room_more limit P c entries spare more None h room = tt
 room_more limit P c entries spare more (Some (Step seat v)) h room = record {
@@ -97,7 +97,7 @@ room_more limit P c entries spare more (Some (Roll seat i r)) h room = record {
   free = omega (arith, h, room.free);
 }
 
--- what is prepared serves still where nothing changed but for more room
+-- what is prepared serves still where nothing changed but for more capacity
 pub room_stays : (limit : ℕ) (P : Program) (old new : Held) (entries pushed : List Entry) (spare more : ℕ) (o now : Option Prepared) → new ≡ old → pushed ≡ entries → spare ≤ more → now ≡ o
     → HasRoom limit P old entries spare o → HasRoom limit P new pushed more now
 room_stays limit P old new entries pushed spare more o now same kept grows left room =
@@ -105,6 +105,6 @@ room_stays limit P old new entries pushed spare more o now same kept grows left 
     (subst (λ es. HasRoom limit P new es more o) (sym kept)
     (subst (λ z. HasRoom limit P z entries more o) (sym same) (room_more limit P old entries spare more o grows room)))
 
--- nothing that is prepared needs no room
+-- nothing that is prepared needs no capacity
 pub no_room : (limit : ℕ) (P : Program) (c : Held) (entries : List Entry) (spare : ℕ) (o : Option Prepared) → o ≡ None → HasRoom limit P c entries spare o
 no_room limit P c entries spare o e = subst (HasRoom limit P c entries spare) (sym e) tt

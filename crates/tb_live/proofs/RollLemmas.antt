@@ -1,4 +1,4 @@
--- What a Live leaves behind a rollback.
+-- What a Live leaves after a rollback.
 use Rattle.std.proofs.Common.{◌≡◌, ℕ, List, [], ◌∷◌, true, false, nat_le, length, reverse, sym, ap, ap₂, ◌∙◌, subst}
 use Rattle.std.proofs.lemmas.List.{reverse-append, length-reverse}
 use Rattle.tb_model.specs.declared.entry.Entry.{Entry}
@@ -55,7 +55,7 @@ live_rolls seat P limit entries pushed before after run new s i removed seen sho
       });
     }
 
--- a refusal, told of the session
+-- a refusal, said of the session
 pub live_keeps_all : (P : Program) (limit : ℕ) (entries : List Entry) (before : Control) (run : Seen) (s : Session) (i : StepId) (e : RollRefusal)
     → shown P limit entries before ≡ s → IsSound P limit (reverse entries) run → RefusesRollback limit run i entries e → KeepsAll s i e
 live_keeps_all P limit entries before run s i NoSuchStep shows sound r = subst (λ (z : Session). stands i (hist z.journal) ≡ false) shows (ap (stands i) (sym sound.leaves) ∙ r)

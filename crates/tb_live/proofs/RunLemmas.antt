@@ -1,4 +1,4 @@
--- A Live's journal and run behind a move.
+-- A Live's journal and run after a move.
 use Rattle.std.proofs.Common.{◌≡◌, ◌<◌, ◌≤◌, ◌+◌, ℕ, zero, suc, List, [], ◌∷◌, ◌++◌, Bool, true, false, nat_le, not, length, reverse, refl, sym, ap, ap₂, ◌∙◌, subst, ℤ, arith, get_or, None}
 use Rattle.std.proofs.lemmas.List.{reverse-append, ext_get_or, length-map}
 use Rattle.std.proofs.lemmas.Bool.Decides.{nat_tests}
@@ -60,7 +60,7 @@ shorter P (Opened ∷ J) s = omega arith
 shorter P (Stepped seat v ∷ J) s = let r = shorter P J s.0 in omega arith
 shorter P (Rolled seat e ∷ J) s = let r = shorter P J s.0 in omega (arith, left_shorter e (hist J))
 
--- where the journal has a place, so has the core
+-- where the journal has a slot, so has the core
 pub has_place : (P : Program) (limit : ℕ) (J : List Entry) (run : Seen) → IsSound P limit J run → nat_le limit (length J) ≡ false → length run.steps < run.limit
 has_place P limit J run s h =
     let room : length J < limit = grind (arith, nat_tests) in
@@ -84,7 +84,7 @@ limited P limit more J run new s within bound is =
       bound = bound;
     })
 
--- ---- behind a step
+-- ---- after a step
 
 pub record Stepped' (seat : ℕ) (P : Program) (limit : ℕ) (J : List Entry) (run : Seen) (p : Plan) (new : Seen) (i : StepId) : Type 0 where
   pub sound : IsSound P limit (Stepped seat (event_of run p) ∷ J) new
@@ -120,7 +120,7 @@ stepped seat P limit J run new p i s room plan fitting k =
       id = k.id ∙ ap (λ K. step_of K v) s.leaves;
     }
 
--- ---- behind an undo
+-- ---- after an undo
 
 -- steps that are gone with the entry of the one that was chosen
 taken_back : (seat : ℕ) (P : Program) (limit : ℕ) (J : List Entry) (run new : Seen) (i : StepId) → IsSound P limit J run → nat_le limit (length J) ≡ false

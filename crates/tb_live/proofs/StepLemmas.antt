@@ -58,7 +58,7 @@ by_some h (Some g) e = cc
 
 -- ---- a planned step
 
--- what is kept of a Live
+-- what is stored of a Live
 pub record Keeps (P : Program) (limit : ℕ) (pushed : List Entry) (after : Control) (new : Seen) : Type 0 where
   pub sound : IsSound P limit (reverse pushed) new
   pub lawful : IsLawful (reverse pushed) after
@@ -88,7 +88,7 @@ module _ (P : Program) (limit : ℕ) (entries : List Entry) (before : Control) (
   full_so : has_no_place limit entries ≡ is_full s
   full_so = ap (nat_le limit) (sym (length-reverse entries)) ∙ ap is_full shows
 
-  -- where the plan's task stands
+  -- where the plan's task is
   line_so : p.config.at ≡ (situation P t (hist journal)).line
   line_so =
       ap (λ (k : Config). k.at) plan.current.here ∙ ap (λ u. (config_of run u).at) plan.of_task
@@ -140,7 +140,7 @@ module _ (P : Program) (limit : ℕ) (entries : List Entry) (before : Control) (
   )
   refused _ k = refusal_so ∙ ap (option_map By) k.hindrance
 
-  -- nothing keeps the least task that can step
+  -- nothing blocks the least task that can step
   clear_so : least_ready P (core.history run) ≡ Some t → refusal_for s t ≡ None
   clear_so l =
       let least = least_found (core.history run) (can_step P (core.history run)) (can_spawned P (core.history run)) in
@@ -150,7 +150,7 @@ module _ (P : Program) (limit : ℕ) (entries : List Entry) (before : Control) (
 
 -- ---- the answers
 
--- what stays behind a refusal
+-- what stays after a refusal
 pub record Stays (P : Program) (limit : ℕ) (s : Session) (pushed : List Entry) (after : Control) (new : Seen) : Type 0 where
   pub keeps : Keeps P limit pushed after new
   pub same : shown P limit pushed after ≡ s
@@ -176,7 +176,7 @@ pub same_held : (P : Program) (limit : ℕ) (entries pushed : List Entry) (befor
     → pushed ≡ entries → after ≡ before → now ≡ kept → held P limit pushed after now ≡ h
 same_held P limit entries pushed before after kept now h is same left holds = ap₂ made (ap₂ (shown P limit) same left) holds ∙ is
 
--- a refusal that keeps what is prepared changes nothing
+-- a refusal that retains what is prepared changes nothing
 pub enters_held : (P : Program) (limit : ℕ) (entries pushed : List Entry) (before after : Control) (kept now : Option Prepared) (h : Held) → held P limit entries before kept ≡ h
     → (seat : ℕ) (run new : Seen) (p : Plan) (result : Result StepId StepRefusal) → Enters limit seat run p new entries pushed before after result
     → OnErr result (now ≡ kept) → OnErr result (held P limit pushed after now ≡ h)

@@ -33,7 +33,7 @@ use Rattle.tb_next.proofs.ReadyLemmas.{can_spawned}
 use Rattle.tb_control.proofs.ControlLemmas.{lawful_given, lawful_let_go}
 use Rattle.tb_live.proofs.RunLemmas.{shown}
 
--- ---- the situation that the core keeps is the definitions'
+-- ---- the situation that the core retains is the definitions'
 
 pub config_so : (P : Program) (run : Seen) (t : Name) → Fits P run → config_of run t ≡ configuration P (core.history run) t
 config_so P run t f = ap₂ {C = Config} (λ (n : ℕ) (rs : List ℤ). record { task = t; steps = length (own t (core.history run)); at = n; regs = rs }) (stands_at P run t f) (holds_registers P run t)
@@ -57,7 +57,7 @@ situated_so P run H t n f leaves k = record {
   cells = k.cells;
 }
 
--- ---- a Live behind a claim
+-- ---- a Live after a claim
 
 abbrev pub with_claims : Control → Claims → Control
 with_claims c claims = record { claims = claims; breakpoints = c.breakpoints; mode = c.mode }

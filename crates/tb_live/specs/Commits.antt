@@ -35,7 +35,7 @@ pub record IsOffered (s : Session) (seat : ℕ) (p : Plan) : Type 0 where
   pub going : IsFalse (has_ended s p.config.task)
   pub program : IsOfProgram s.program p.instr
 
--- the step of the plan may be taken by the seat
+-- the step of the plan may be executed by the seat
 pub record MayCommit (s : Session) (seat : ℕ) (p : Plan) : Type 0 where
   pub claimed : IsClaimed s seat p
   pub up_to_date : IsUpToDate s p
@@ -45,9 +45,9 @@ pub record MayCommit (s : Session) (seat : ℕ) (p : Plan) : Type 0 where
 abbrev pub entry_to_come : ℕ → Session → Plan → Entry
 entry_to_come seat s p = Stepped seat (coming s p.config.task)
 
--- what keeps the task from the plan's step; a plan that isn't up to date is stale, before anything is in the task's way;
--- memory may be wanted for the situation of a stale plan and for a name of more than three numbers, and else only where the
--- journal has a place
+-- what blocks the plan's step of the task; a plan that isn't up to date is stale, before anything
+-- is in the task's way; memory may be wanted for the situation of a stale plan and for a name of
+-- more than three ordinals, and else only where the journal has a slot
 abbrev pub RefusesPlan : Session → Plan → StepRefusal → Type 0
 RefusesPlan s p NoSuchTask = Refuses s p.config.task NoSuchTask
 RefusesPlan s p Ended = Refuses s p.config.task Ended
@@ -66,25 +66,25 @@ RefusesCommit s seat p Paused = IsTrue (is_paused s.control.mode)
 RefusesCommit s seat p Withdrawn = IsFalse (is_paused s.control.mode) × (claim_of s.control.claims seat ≢ Some p.config.task)
 RefusesCommit s seat p (Step e) = IsClaimed s seat p × RefusesPlan s p e
 
--- the step is taken, and its entry stands at the place
+-- the step is executed, and its entry is at the slot
 pub record IsCommitted (seat : ℕ) (s : Session) (p : Plan) (new : Session) (at : ℕ) : Type 0 where
   pub may : MayCommit s seat p
   pub place : at ≡ length s.journal
   pub step : StepId
   pub steps : StepsFor seat s p.config.task new step
 
--- a commit by its answer, the place of its entry; a refusal changes nothing
+-- a commit by its answer, the slot of its entry; a refusal changes nothing
 abbrev pub Commits : ℕ → Session → Plan → Session → Result ℕ CommitRefusal → Type 0
 Commits seat s p new (Ok place) = IsCommitted seat s p new place
 Commits seat s p new (Err e) = (new ≡ s) × RefusesCommit s seat p e
 
--- the step is taken as by a commit, and the seat claims the task still
+-- the step is executed as by a commit, and the seat claims the task still
 pub record IsCommittedOn (seat : ℕ) (s : Session) (p : Plan) (new : Session) (at : ℕ) : Type 0 where
   pub ended : Session
   pub committed : IsCommitted seat s p ended at
   pub claims : new ≡ with_seat ended seat (Some p.config.task)
 
--- a commit after which the seat claims the task still, by its answer, the place of its entry; a
+-- a commit after which the seat claims the task still, by its answer, the slot of its entry; a
 -- refusal changes nothing
 abbrev pub CommitsMore : ℕ → Session → Plan → Session → Result ℕ CommitRefusal → Type 0
 CommitsMore seat s p new (Ok place) = IsCommittedOn seat s p new place

@@ -15,7 +15,7 @@ use Rattle.tb_control.specs.Controls.{behind_step, claimed_by}
 use Rattle.tb_core.specs.Outcomes.{IsCurrent, IsHindered, IsKept, Steps, Takes, event_for, event_of, hindrance_of}
 use Rattle.tb_core.specs.Naming.{IsLong}
 
--- the journal is so long that it has no place
+-- the journal is so long that it has no slot
 abbrev pub has_no_place : ℕ → List Entry → Bool
 has_no_place limit entries = nat_le limit (length entries)
 
@@ -24,13 +24,13 @@ pub record IsEntered (seat : ℕ) (run : Seen) (p : Plan) (new : Seen) (old entr
   pub steps : Steps run p new i
   pub grows : entries ≡ old ++ Stepped seat (event_of run p) ∷ []
 
--- the event of an action was taken, and is the newest entry, of this seat
+-- the event of an action was executed, and is the newest entry, of this seat
 pub record IsTaken (seat : ℕ) (run : Seen) (t : Name) (a : Action) (to : ℕ) (new : Seen) (old entries : List Entry) : Type 0 where
   pub taken : Takes run t a to new (event_for run t a)
   pub grows : entries ≡ old ++ Stepped seat (event_for run t a) ∷ []
 
--- what keeps the task from its action comes before a full journal, and want of memory last: at a full journal it takes the
--- place of a name alone, and only of a long one
+-- what blocks the task's action comes before a full journal, and want of memory last: at a full
+-- journal it takes the place of a name alone, and only of a long one
 abbrev pub IsKeptFrom : Seen → Plan → Bool → StepRefusal → Type 0
 IsKeptFrom run p full Full = IsCurrent run p × (hindrance_of run p ≡ None) × IsTrue full
 IsKeptFrom run p full Memory = (IsCurrent run p → hindrance_of run p ≡ None → IsFalse full) × ((h : Hindrance) → IsHindered run p h → IsLong h)

@@ -28,7 +28,7 @@ use Rattle.tb_live.specs.Session.{Session, Held, history, is_full, with_entry}
 abbrev pub has_ended : Session → Name → Bool
 has_ended s t = list_any (ends t) (history s)
 
--- what keeps the task from its step, but for the journal's limit
+-- what blocks the task's step, but for the journal's limit
 abbrev pub refusal_for : Session → Name → Option Refusal
 refusal_for s t = refusal_of s.program (history s) t
 
@@ -40,7 +40,7 @@ least_task s = least_ready s.program (history s)
 abbrev pub coming : Session → Name → Event
 coming s t = next_event s.program (history s) t
 
--- nothing keeps the task from its step, and the journal has a place
+-- nothing blocks the task's step, and the journal has a slot
 pub record MayStep (s : Session) (t : Name) : Type 0 where
   pub unrefused : refusal_for s t ≡ None
   pub room : IsFalse (is_full s)
@@ -56,12 +56,12 @@ pub record StepsFor (seat : ℕ) (s : Session) (t : Name) (new : Session) (i : S
 abbrev pub Steps : Session → Name → Session → StepId → Type 0
 Steps = StepsFor 0
 
--- the refusal tells what keeps the task from its next step, a full journal aside
+-- the refusal says what blocks the task's next step, a full journal aside
 abbrev pub Hinders : Session → Name → StepRefusal → Type 0
 Hinders s t e = IsSomeAnd (told_by e) (λ told. refusal_for s t ≡ Some told)
 
--- when a task takes no step; want of memory comes last: it takes the place of a name of more than three numbers, and else it
--- comes only where the journal has a place
+-- when a task executes no step; want of memory comes last: it takes the place of a name of more
+-- than three ordinals, and else it comes only where the journal has a slot
 abbrev pub Refuses : Session → Name → StepRefusal → Type 0
 Refuses s t Full = (refusal_for s t ≡ None) × IsTrue (is_full s)
 Refuses s t Memory =
@@ -91,7 +91,7 @@ for_least (Err e) = Err e
 abbrev pub LeastStepsBy : Session → Session → Result (Option StepId) StepRefusal → Type 0
 LeastStepsBy = LeastStepsFor 0
 
--- the step stands, nothing needs it, and the journal has a place
+-- the step is there, nothing needs it, and the journal has a slot
 pub record MayUndo (s : Session) (i : StepId) : Type 0 where
   pub stands : IsTrue (stands i (history s))
   pub unneeded : first_needer i (history s) ≡ None
@@ -101,8 +101,9 @@ pub record MayUndo (s : Session) (i : StepId) : Type 0 where
 abbrev pub event_back : StepId → Removed → Event
 event_back i removed = record { task = i.task; action = removed.action }
 
--- the undo is the journal's newest entry, of this seat; the step is the next one of its task then, with the same numbers, and
--- with it all is as it was: the histories are equivalent and alike in all that a state tells, and each task is in its situation
+-- the undo is the journal's newest entry, of this seat; the step is the next one of its task then,
+-- with the same values, and with it all is as it was: the histories are equivalent and alike in all
+-- that a state says, and each task is in its situation
 pub record UndoesFor (seat : ℕ) (s : Session) (i : StepId) (new : Session) (removed : Removed) : Type 0 where
   pub may : MayUndo s i
   pub id : removed.id ≡ i
@@ -115,8 +116,8 @@ pub record UndoesFor (seat : ℕ) (s : Session) (i : StepId) (new : Session) (re
 abbrev pub Undoes : Session → StepId → Session → Removed → Type 0
 Undoes = UndoesFor 0
 
--- an undo by its answer; memory may be wanted for the name of what needs the step, where it has more than three numbers, and
--- else only where the journal has a place
+-- an undo by its answer; memory may be wanted for the name of what needs the step, where it has
+-- more than three ordinals, and else only where the journal has a slot
 abbrev pub UndoneFor : ℕ → Session → StepId → Session → Result Removed UndoRefusal → Type 0
 UndoneFor seat s i new (Ok removed) = UndoesFor seat s i new removed
 UndoneFor seat s i new (Err NoSuchStep) = (new ≡ s) × IsFalse (stands i (history s))

@@ -1,4 +1,4 @@
--- The refusals of a commit by their numbers.
+-- The refusals of a commit by their codes.
 use Rattle.std.specs.Prelude.{ℕ}
 use Rattle.tb_core.specs.Refusals.{step_number}
 use Rattle.tb_live.specs.declared.commit_refusal.CommitRefusal.{CommitRefusal}

@@ -1,4 +1,4 @@
--- What is prepared for the next change, and the room that is made for it.
+-- What is prepared for the next change, and the capacity that is made for it.
 use Rattle.std.specs.Prelude.{◌≡◌, ◌<◌, ℕ, List, Option, Some, None, IsTrue, IsFalse, ⊤}
 use Rattle.tb_model.specs.declared.entry.Entry.{Entry}
 use Rattle.tb_model.specs.declared.entry.Entry.TheVariants.{Stepped, Rolled}
@@ -47,7 +47,7 @@ abbrev pub held_roll : Option Prepared → Option (StepId × Ready)
 held_roll (Some (Roll seat i ready)) = Some (i, ready)
 held_roll _ = None
 
--- so many places of the journal are free, and the plan's event may be taken without memory
+-- so many slots of the journal are free, and the plan's event may be executed without memory
 pub record IsReadied (limit : ℕ) (core : Held) (p : Plan) (entries : List Entry) (spare : ℕ) (v : Event) : Type 0 where
   pub is_open : IsOpen core.run p
   pub event : v ≡ event_of core.run p
@@ -63,7 +63,7 @@ pub record IsRollReadied (limit : ℕ) (core : Held) (i : StepId) (entries : Lis
   pub room : IsFalse (has_no_place limit entries)
   pub free : 0 < spare
 
--- the rollback of the step is prepared, under two of its names, and a place of the journal is free
+-- the rollback of the step is prepared, under two of its names, and a slot of the journal is free
 abbrev pub MayRoll : ℕ → StepId → Option Prepared → Type 0
 MayRoll spare i o = (0 < spare) × (held_names o ≡ Some (i, i))
 

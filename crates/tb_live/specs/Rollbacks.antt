@@ -34,7 +34,7 @@ pub record EntersUndo (seat : ℕ) (run : Seen) (i : StepId) (new : Seen) (old e
   pub takes : TakesBack run i new removed
   pub grows : entries ≡ old ++ Rolled seat i ∷ []
 
--- why it stays; want of memory comes last, or in place of a name of more than three numbers
+-- why it stays; want of memory comes last, or in place of a name of more than three ordinals
 abbrev pub RefusesUndo : Seen → StepId → UndoRefusal → Type 0
 RefusesUndo run i NoMemory = IsTrue (stands i (history run)) × ((by : StepId) → first_needer i (history run) ≡ Some by → IsLongName by.task)
 RefusesUndo run i e = Keeps run i e

@@ -26,7 +26,7 @@ unclaimed s = record {
 abbrev pub resumed : Session → Session
 resumed s = with_mode s Resumed
 
--- the task's next event is the newest entry, at this place; a refusal changes nothing
+-- the task's next event is the newest entry, at this slot; a refusal changes nothing
 abbrev pub StepsAt : Session → Name → Session → Result ℕ CommitRefusal → Type 0
 StepsAt s t new (Ok place) = (place ≡ length s.journal) × ((i : StepId) × Steps s t new i)
 StepsAt s t new (Err (NotTaken e)) = (new ≡ s) × Refuses s t e

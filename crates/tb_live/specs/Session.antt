@@ -1,4 +1,5 @@
--- What a contract sees of a Live: its program, how many entries its journal may have, the journal, and what stands beside it.
+-- What a contract sees of a Live: its program, how many entries its journal may have, the journal,
+-- and what it has besides.
 use Rattle.std.specs.Prelude.{ℕ, Bool, List, [], ◌∷◌, ℤ, suc, nat_le, length, replicate, Option, None}
 use Rattle.tb_model.specs.declared.entry.Entry.{Entry}
 use Rattle.tb_model.specs.declared.entry.Entry.TheVariants.{Opened, Stepped, Rolled}
@@ -22,7 +23,7 @@ pub record Session : Type 0 where
   pub journal : List Entry
   pub control : Control
 
--- what a Live holds: its session, and the entry for which all room is made
+-- what a Live holds: its session, and the entry for which all capacity is reserved
 pub record Held : Type 0 where
   pub session : Session
   pub prepared : Option Entry
@@ -38,12 +39,12 @@ opened P limit seats = record { program = P; limit = limit; journal = Opened ∷
 abbrev pub history : Session → History
 history s = hist s.journal
 
--- the journal has no place for one more entry
+-- the journal has no slot for one more entry
 abbrev pub is_full : Session → Bool
 is_full s = nat_le s.limit (length s.journal)
 
--- what stands beside the journal behind one entry more: a step counts, and ends the claim on its task; a rollback withdraws
--- the claims on the tasks of which it removes a step or the spawn
+-- what a run has besides the journal after one entry more: a step counts, and ends the claim on its
+-- task; a rollback withdraws the claims on the tasks of which it removes a step or the spawn
 abbrev pub control_behind : Program → List Entry → Control → Entry → Control
 control_behind P J c Opened = c
 control_behind P J c (Stepped seat v) = behind_step (situation P v.task (hist J)).line v c
@@ -66,7 +67,7 @@ with_seat s seat claim = record {
 abbrev pub with_limit : ℕ → Session → Session
 with_limit limit s = record { program = s.program; limit = limit; journal = s.journal; control = s.control }
 
--- the cells' numbers from cell c on, where these are their first numbers
+-- the cells' values from cell c on, where these are their first values
 abbrev pub numbers_from : ℕ → Cells → History → List ℤ
 numbers_from c [] H = []
 numbers_from c (first ∷ cells) H = last first c H ∷ numbers_from (suc c) cells H

@@ -22,7 +22,7 @@ use Rattle.tb_live.specs.Session.{Session, history, is_full, with_seat}
 use Rattle.tb_live.specs.Moves.{has_ended, least_task}
 use Rattle.tb_next.specs.Plans.{CanTake}
 
--- the situation of a task behind a history
+-- the situation of a task after a history
 abbrev pub configuration : Program → History → Name → Config
 configuration P H t = record { task = t; steps = length (own t H); at = (situation P t H).line; regs = (situation P t H).regs }
 
@@ -80,7 +80,7 @@ ClaimsWork s seat new Later =
 ClaimsWork s seat new Done = IsFalse (is_stopped s) × (least_task s ≡ None) × (new ≡ with_seat s seat None)
 ClaimsWork s seat new Stopped = IsTrue (is_stopped s) × (new ≡ with_seat s seat None)
 
--- the claim that this offer tells, but for the private statements
+-- the claim that this offer says, but for the private statements
 abbrev pub IsOffered : Session → ℕ → Session → Offer → Type 0
 IsOffered s seat new (Task n) =
     IsFalse (is_stopped s)

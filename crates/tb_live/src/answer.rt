@@ -4,7 +4,7 @@ use crate::commit_refusal::CommitRefusal;
 use tb_core::{Removed, UndoRefusal};
 use tb_roll::RollRefusal;
 
-/// What a move of a run is answered. A step is answered by the place of its entry in the journal.
+/// What a move of a run is answered. A step is answered by the slot of its entry in the journal.
 #[derive(Debug, Drop)]
 pub enum Answer {
     Step(Result<u32, CommitRefusal>),

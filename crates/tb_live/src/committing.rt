@@ -20,8 +20,8 @@ use tb_next::Floor;
 use tb_plan::Plan;
 use tb_read::Program;
 
-/// The event of a plan, with all room made for its step: what is prepared for the task, if something
-/// is, and then without memory. A refusal keeps what is prepared.
+/// The event of a plan, with all capacity reserved for its step: what is prepared for the task, if
+/// something is, and then without memory. A refusal retains what is prepared.
 fn event_for(
     program: &Program,
     core: &mut Core,
@@ -64,7 +64,8 @@ fn event_for(
     }
 }
 
-/// Takes the step of a plan of the program, and enters it for the seat. A refusal keeps what is prepared.
+/// Executes the step of a plan of the program, and enters it for the seat. A refusal retains what
+/// is prepared.
 pub fn enter_plan(
     program: &Program,
     core: &mut Core,
@@ -95,8 +96,8 @@ pub fn enter_plan(
     }
 }
 
-/// Takes the step of a plan of the program, and enters it for a seat that goes on with the task:
-/// the seat claims the task still. A refusal keeps what is prepared.
+/// Executes the step of a plan of the program, and enters it for a seat that goes on with the task:
+/// the seat claims the task still. A refusal retains what is prepared.
 pub fn enter_on(
     program: &Program,
     core: &mut Core,

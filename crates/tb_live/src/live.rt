@@ -1,4 +1,4 @@
-//! A live run: the program, the core, the journal, and what stands beside it.
+//! A live run: the program, the core, the journal, and what it has besides.
 
 mod claiming;
 mod committing;
@@ -44,7 +44,7 @@ pub struct Live {
     journal: Journal,
     control: Control,
     limit: u32,
-    // what the next change finds ready
+    // what the next change finds prepared
     prepared: Option<Prepared>,
     // where the look for a task that can step begins
     floor: Floor,
@@ -102,21 +102,21 @@ impl Live {
         &self.program
     }
 
-    /// The cells' numbers, in order.
+    /// The cells' values, in order.
     pub fn cells(&self) -> &[i64]
         ensures { result.now ≡ cell_numbers self.now.session }
     {
         self.core.cells()
     }
 
-    /// The printed numbers, in order.
+    /// The printed values, in order.
     pub fn output(&self) -> &[i64]
         ensures { result.now ≡ reverse (printed (history self.now.session)) }
     {
         self.core.output()
     }
 
-    /// The newest step that stands: the task that took it, and what it did.
+    /// The newest step that is there: the task that took it, and what it did.
     pub fn newest(&self) -> Option<(&TaskName, &Action)>
         ensures some { IfSome result (λ p. slice_get (history self.now.session) 0
             ≡ Some (record { task = p.0.now; action = p.1.now })) }
@@ -125,7 +125,7 @@ impl Live {
         self.core.newest()
     }
 
-    /// Whether the journal has no place for one more entry.
+    /// Whether the journal has no slot for one more entry.
     pub fn is_full(&self) -> bool
         ensures { result ≡ is_full self.now.session }
     {
@@ -148,8 +148,8 @@ impl Live {
         self.control.claims.let_go(seat);
     }
 
-    /// Takes the next step of a task, for seat 0. Want of memory comes last. A refusal keeps what is
-    /// prepared.
+    /// Executes the next step of a task, for seat 0. Want of memory comes last. A refusal retains
+    /// what is prepared.
     pub fn step(&mut self, task: &TaskName) -> Result<StepId, StepRefusal>
         ensures stepped { StepsBy self.old.session task.now self.new.session result }
         ensures kept { OnErr result (self.new ≡ self.old) }
@@ -175,8 +175,8 @@ impl Live {
         )
     }
 
-    /// Takes the next step of the least task that can step, for seat 0; None where all tasks have
-    /// ended.
+    /// Executes the next step of the least task that can step, for seat 0; None where all tasks
+    /// have ended.
     #[inline(always)]
     pub fn step_least(&mut self) -> Result<Option<StepId>, StepRefusal>
         ensures stepped { LeastStepsBy self.old.session self.new.session result }
@@ -185,8 +185,8 @@ impl Live {
         self.step_least_for(0)
     }
 
-    /// Takes the next step of the least task that can step, for any seat, whatever the claims; None
-    /// where all have ended. The mode counts it, and pauses at a breakpoint.
+    /// Executes the next step of the least task that can step, for any seat, whatever the claims;
+    /// None where all have ended. The mode counts it, and pauses at a breakpoint.
     pub fn step_least_for(&mut self, seat: u32) -> Result<Option<StepId>, StepRefusal>
         ensures stepped { LeastStepsFor seat self.old.session self.new.session result }
         ensures kept { OnErr result (self.new ≡ self.old) }
@@ -223,7 +223,7 @@ impl Live {
         }
     }
 
-    /// Why no least task takes a step where memory for the look was refused.
+    /// Why no least task executes a step where memory for the look was refused.
     #[inline(never)]
     fn least_refused(&self) -> Result<Option<StepId>, StepRefusal>
         ensures { (seat : ℕ) → LeastStepsFor seat self.now.session self.now.session result }
@@ -255,7 +255,7 @@ impl Live {
     }
 
     /// Takes a step back that nothing needs, for the seat. The step is looked for once, where its
-    /// rollback isn't prepared. A refusal changes nothing, and keeps what is prepared.
+    /// rollback isn't prepared. A refusal changes nothing, and retains what is prepared.
     pub fn undo(&mut self, seat: u32, id: &StepId) -> Result<Removed, UndoRefusal>
         ensures undone { UndoneFor seat self.old.session id.now self.new.session result }
         ensures kept { OnErr result (self.new ≡ self.old) }
@@ -281,8 +281,8 @@ impl Live {
         }
     }
 
-    /// Takes a step back with all that need it, for the seat, and tells them in the order of the
-    /// history, the chosen one first. A refusal changes nothing, and keeps what is prepared.
+    /// Takes a step back with all that need it, for the seat, and returns them in the order of the
+    /// history, the chosen one first. A refusal changes nothing, and retains what is prepared.
     pub fn roll(&mut self, seat: u32, id: &StepId) -> Result<Vec<Removed>, RollRefusal>
         ensures rolled { IfOk result (λ removed. RollsFor seat self.old.session id.now self.new.session removed.items) }
         ensures refused { IfErr result (λ e. (self.new.session ≡ self.old.session) × KeepsAll self.old.session id.now e) }

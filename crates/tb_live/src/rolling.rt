@@ -10,7 +10,7 @@ use tb_journal::Journal;
 use tb_model::{Entry, StepId};
 use tb_roll::{Ready, RollRefusal, finish, ready};
 
-/// Finds all that goes with a step, and makes all room for the rollback and for its entry.
+/// Finds all that goes with a step, and reserves all capacity for the rollback and for its entry.
 pub fn ready_roll(
     alloc: Global,
     core: &Core,
@@ -44,7 +44,7 @@ pub fn ready_roll(
     }
 }
 
-/// Takes a step back with all that need it, and enters it for the seat: by what is readied, where
+/// Takes a step back with all that need it, and enters it for the seat: by what is reserved, where
 /// something is, and then without memory.
 pub fn enter_roll(
     alloc: Global,

@@ -21,8 +21,9 @@ use tb_model::{Action, Event, StepId, TaskName};
 use tb_next::{Coming, Floor};
 use tb_plan::Plan;
 
-/// Makes all room for the step of a plan and for its entry, and tells the event, twice. The journal has
-/// more entries than the history has events. What was prepared is given up for it, but at no refusal.
+/// Reserves all capacity for the step of a plan and for its entry, and returns the event, twice.
+/// The journal has more entries than the history has events. What was prepared is given up for it,
+/// but at no refusal.
 pub fn ready_step(
     core: &mut Core,
     journal: &mut Journal,
@@ -63,7 +64,8 @@ pub fn ready_step(
     }
 }
 
-/// Takes a step for which all room is made, and enters it for the seat. It takes no memory.
+/// Executes a step for which all capacity is reserved, and enters it for the seat. It takes no
+/// memory.
 pub fn enter_readied(
     core: &mut Core,
     journal: &mut Journal,
@@ -91,8 +93,9 @@ pub fn enter_readied(
     id
 }
 
-/// Takes what a task does next, from which nothing keeps it, and enters it for the seat: nothing is asked
-/// again but whether the journal has a place. What was prepared is given up for it, but at no refusal.
+/// Executes what a task does next, that nothing blocks, and enters it for the seat: nothing is
+/// asked again but whether the journal has a slot. What was prepared is given up for it, but at no
+/// refusal.
 #[inline(always)]
 pub fn enter_clear(
     core: &mut Core,
@@ -141,8 +144,8 @@ pub fn enter_clear(
     }
 }
 
-/// Turns to the floor's task, which was found after a search, takes what it does next, and enters
-/// it for the seat.
+/// Turns to the task of the search start, which was found after a search, executes what it does
+/// next, and enters it for the seat.
 // out of line: a task's step after its own doesn't pay for its stack frame
 #[inline(never)]
 pub fn enter_apart(
@@ -184,7 +187,7 @@ pub fn for_least(stepped: Result<StepId, StepRefusal>) -> Result<Option<StepId>,
     }
 }
 
-/// Follows the newest step, whose task stood at the line.
+/// Follows the newest step, whose task was at the line.
 #[inline(always)]
 fn follow(control: &mut Control, core: &Core, line: u32)
     ensures { (v : AnEvent) → slice_get (history core.now.run) 0 ≡ Some v →
@@ -195,9 +198,9 @@ fn follow(control: &mut Control, core: &Core, line: u32)
     }
 }
 
-/// Takes an action from which nothing keeps the task, and enters it for the seat. Most entries are
-/// read off the history's newest event; one that shares memory with its event, or is stored out of
-/// line, is copied before the step.
+/// Executes an action that nothing blocks, and enters it for the seat. Most entries are read off
+/// the history's newest event; one that shares memory with its event, or is stored out of line, is
+/// copied before the step.
 #[inline(always)]
 fn take(
     core: &mut Core,
@@ -227,8 +230,8 @@ fn take(
     Ok(())
 }
 
-/// Takes what a task does next, where nothing keeps it from that, and enters it for the seat. What was
-/// prepared is kept where the step is refused.
+/// Executes what a task does next, where nothing blocks that, and enters it for the seat. What was
+/// prepared is retained where the step is refused.
 pub fn enter_step(
     core: &mut Core,
     journal: &mut Journal,

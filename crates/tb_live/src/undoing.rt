@@ -11,9 +11,9 @@ use tb_core::{Core, Removed, UndoRefusal};
 use tb_journal::Journal;
 use tb_model::{Entry, StepId};
 
-/// Takes a step back that nothing needs, and enters it for the seat, where the journal has a place: by
-/// what is prepared for its rollback, where that is, and then without memory. A refusal keeps what is
-/// prepared.
+/// Takes a step back that nothing needs, and enters it for the seat, where the journal has a slot:
+/// by what is prepared for its rollback, where that is, and then without memory. A refusal retains
+/// what is prepared.
 pub fn enter_undo(
     core: &mut Core,
     journal: &mut Journal,
@@ -41,7 +41,8 @@ pub fn enter_undo(
     }
 }
 
-/// Two names of the step, one for its undo and one for its entry, for which the journal has room.
+/// Two names of the step, one for its undo and one for its entry, for which the journal has
+/// capacity.
 fn fresh_names(journal: &mut Journal, step: &StepId) -> Result<(StepId, StepId), AllocError>
     ensures entries { journal.new.items ≡ journal.old.items }
     ensures names { IfOk result (λ p. (p.0 ≡ step.now) × (p.1 ≡ step.now)) }

@@ -34,14 +34,14 @@ fn evaluated(rt: &(impl Abort + AllocGlobal), work: &Work) -> Plan {
     plan(rt.alloc(), &work.instr, &work.config).expect(rt, "a plan")
 }
 
-/// 100 more than the number of the refusal.
+/// 100 more than the code of the refusal.
 fn refused(refusal: CommitRefusal) -> u32 {
     let number = refusal.number();
     mem::forget(refusal);
     100 + u32::from(number)
 }
 
-/// The place of the entry, or 100 more than the number of the refusal.
+/// The slot of the entry, or 100 more than the code of the refusal.
 fn committed(live: &mut Live, seat: u32, plan: Plan) -> u32 {
     match live.commit(seat, plan) {
         Ok(place) => place,
@@ -49,7 +49,7 @@ fn committed(live: &mut Live, seat: u32, plan: Plan) -> u32 {
     }
 }
 
-/// 1 where the commit is prepared, or 100 more than the number of the refusal.
+/// 1 where the commit is prepared, or 100 more than the code of the refusal.
 fn prepared(live: &mut Live, seat: u32, plan: &Plan) -> u32 {
     match live.prepare(seat, plan) {
         Ok(entry) => {
@@ -134,7 +134,7 @@ fn a_plan_of_a_removed_task_is_withdrawn(rt: HostRuntime) {
 const UNDEFERRED: &[u8] = b"cells 1\nbody main 0\n  task a 1 if 1 == 2\n  print 9\nend\n\
     body a 1\n  store 0 r0\nend\n";
 
-/// A plan behind an undeferred child that has ended, and then hasn't.
+/// A plan after an undeferred child that has ended, and then hasn't.
 fn undo_the_end(rt: &(impl Abort + AllocGlobal), live: &mut Live) {
     let plan = planned(rt, live, 1, "0");
     assert_eq!(rt; prepared(live, 1, &plan), 1);

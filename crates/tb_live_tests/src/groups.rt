@@ -1,4 +1,4 @@
-//! What a task's state is beside its situation.
+//! What a task's state has besides its situation.
 
 ghost use Rattle.std.specs.Prelude.{◌≤◌};
 

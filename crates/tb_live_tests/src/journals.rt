@@ -56,7 +56,8 @@ fn has_same_text(rt: &impl AllocGlobal, left: &Entry, right: &Entry) -> Result<b
     Ok(left.as_str() == right.as_str())
 }
 
-/// Adds the entry for which there is room by its action, where that has no name or list of its own.
+/// Adds the entry for which there is capacity by its action, where that has no name or list of its
+/// own.
 fn push(rt: &impl Abort, journal: &mut Journal, entry: Entry)
     requires { 0 < journal.old.room }
     ensures { length journal.old.items < length journal.new.items }
@@ -164,7 +165,7 @@ fn entries_of_any_seat_come_back(rt: HostRuntime) {
     mem::forget(journal);
 }
 
-/// Whether the entry at the place is that of a group which the task began.
+/// Whether the entry at the slot is that of a group which the task began.
 fn has_opened(rt: &(impl Abort + AllocGlobal), journal: &Journal, place: usize, name: &[u8]) {
     assert!(rt; place < journal.len());
     let entry = journal.entry(place).expect(rt, "memory");

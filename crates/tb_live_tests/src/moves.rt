@@ -10,7 +10,7 @@ use tb_read::read;
 
 const TEXT: &[u8] = b"cells 1\nbody main 0\n  store 0 7\n  print 7\nend\n";
 
-/// The moves, and for each its answer: 100 and more for one that is made, else the number of the
+/// The moves, and for each its answer: 100 and more for one that is made, else the code of the
 /// refusal.
 const MOVES: [(&str, &str, u32); 8] = [
     ("step", "0", 100),

@@ -44,7 +44,7 @@ fn made(live: &mut Live, at: Break) -> u32 {
     }
 }
 
-/// The number of the refusal, and 100 where the breakpoint is taken away.
+/// The code of the refusal, and 100 where the breakpoint is taken away.
 fn cleared(live: &mut Live, number: u32) -> u8 {
     match live.clear_break(number) {
         Ok(_) => 100,
@@ -87,7 +87,7 @@ fn make_and_clear(rt: &(impl Abort + AllocGlobal), live: &mut Live) {
     assert_eq!(rt; cleared(live, 1), 2);
 }
 
-/// How many steps are asked for, how many are taken, and what paused behind them.
+/// How many steps are asked for, how many are executed, and what paused after them.
 const PAUSES: [(Option<u32>, u32, PausedBy); 3] = [
     (None, 1, PausedBy::Break { number: 2 }),
     (Some(2), 2, PausedBy::Break { number: 3 }),
@@ -169,7 +169,7 @@ fn offered(rt: &(impl Abort + AllocGlobal), live: &mut Live, seat: u32) -> u32 {
     }
 }
 
-/// The line at which the task stands, or 100 more than the number of the refusal.
+/// The line at which the task is, or 100 more than the code of the refusal.
 pub fn asked(rt: &(impl Abort + AllocGlobal), live: &mut Live, seat: u32, name: &str) -> u32 {
     assert!(rt; seat < live.seats());
     let task = task(rt, name);

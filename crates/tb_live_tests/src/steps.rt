@@ -1,4 +1,4 @@
-//! That calls succeed, and what they return.
+//! Tests that calls succeed, and of what they return.
 
 ghost use Rattle.std.specs.Prelude.{◌≤◌};
 
@@ -44,7 +44,7 @@ fn number_kept(live: &mut Live, alloc: Global, k: u32) -> u8 {
     number
 }
 
-/// The number of the answer to an undo of the nth step of the root.
+/// The code of the answer to an undo of the nth step of the root.
 fn number_behind(outcome: &Result<Removed, UndoRefusal>, k: u32) -> u8 {
     match outcome {
         Ok(_) => 100,
@@ -55,7 +55,7 @@ fn number_behind(outcome: &Result<Removed, UndoRefusal>, k: u32) -> u8 {
 
 const STORED: &[u8] = b"cells 1\nbody main 0\n  store 0 7\n  load r3 0\n  print r3\nend\n";
 
-/// The answers to undos of these steps of the root: the number of each refusal, and 100 for a step
+/// The answers to undos of these steps of the root: the code of each refusal, and 100 for a step
 /// that is gone.
 fn undo_all(rt: &(impl Abort + AllocGlobal), live: &mut Live, rows: &[(u32, u8)]) {
     for (k, number) in rows {
@@ -101,7 +101,8 @@ fn ends_and_fills(rt: HostRuntime) {
     mem::forget(live);
 }
 
-/// A journal that may have no more entries takes no step, and takes one where it may have one more.
+/// A journal that may have no more entries executes no step, and takes one where it may have one
+/// more.
 #[test]
 fn a_limit_is_set(rt: HostRuntime) {
     let mut live = opened(rt.alloc(), STORED, 12).expect(&rt, "an accepted program");
@@ -132,7 +133,7 @@ fn named(refusal: &StepRefusal) -> Option<&TaskName> {
     }
 }
 
-/// Adds the number of the refusal with the task that it names.
+/// Adds the code of the refusal with the task that it names.
 fn tell_refusal(rt: &impl Abort, text: &mut String, refusal: &StepRefusal) {
     let number = refusal.number();
     write!(text, "{number} ").expect(rt, "memory is there");
@@ -142,7 +143,8 @@ fn tell_refusal(rt: &impl Abort, text: &mut String, refusal: &StepRefusal) {
     text.push(' ').expect(rt, "memory is there");
 }
 
-/// The number of the refusal that a step of the task would get, a full journal aside, and 100 for a step that would be taken.
+/// The code of the refusal that a step of the task would get, a full journal aside, and 100 for a
+/// step that would be executed.
 fn foretold(rt: &impl Abort, live: &Live, task: &TaskName) -> u8 {
     match live.refusal(task).expect(rt, "memory is there") {
         Some(refusal) => {
@@ -154,7 +156,7 @@ fn foretold(rt: &impl Abort, live: &Live, task: &TaskName) -> u8 {
     }
 }
 
-/// Adds the refusal of a step of the task, and nothing for a step that is taken.
+/// Adds the refusal of a step of the task, and nothing for a step that is executed.
 fn answer(rt: &(impl Abort + AllocGlobal), live: &mut Live, name: &str, text: &mut String) {
     let task = TaskName::parse(rt.alloc(), name.as_bytes()).expect(rt, name);
     let mut number = foretold(rt, live, &task);
@@ -239,7 +241,8 @@ fn each_refusal_names_what_stands_in_the_way(rt: HostRuntime) {
     }
 }
 
-/// A store, and a load that a later store overwrote, beside a task that has nothing to do with them.
+/// A store, and a load that a later store overwrote, next to a task that has nothing to do with
+/// them.
 const CONFLICT: &[u8] = b"cells 1\ncell 0 5\nbody main 0\ntask a\ntask b\nend\nbody a 0\n\
     load r0 0\nprint r0\nend\nbody b 0\nlet r0 1\nstore 0 9\nend\n";
 
@@ -258,7 +261,7 @@ fn tell_removed(rt: &impl Abort, text: &mut String, removed: &[Removed]) {
     }
 }
 
-/// Adds the steps that go with one, or the number of the refusal.
+/// Adds the steps that go with one, or the code of the refusal.
 fn roll_back(rt: &(impl Abort + AllocGlobal), live: &mut Live, id: &StepId, text: &mut String) {
     match live.roll(0, id) {
         Ok(removed) => {
@@ -325,7 +328,7 @@ fn a_rollback_takes_what_needs_the_step(rt: HostRuntime) {
     mem::forget(live);
 }
 
-/// Adds the step that is taken, or the number of the refusal.
+/// Adds the step that is executed, or the code of the refusal.
 fn take_one(rt: &impl Abort, live: &mut Live, line: &mut String) {
     match live.step_least() {
         Ok(id) => {
@@ -394,7 +397,7 @@ fn undo_again(rt: &(impl Abort + AllocGlobal), live: &mut Live, k: u32) {
     }
 }
 
-/// How many steps go with this one, or the number of the refusal.
+/// How many steps go with this one, or the code of the refusal.
 fn gone(live: &mut Live, id: &StepId) -> Result<usize, u8> {
     match live.roll(0, id) {
         Ok(removed) => {

@@ -17,7 +17,7 @@ use tb_roll::{RollRefusal, roll};
 const TEXT: &[u8] = b"cells 1\ncell 0 5\nbody main 0\ntask a\ntask b depend out 0\nend\n\
     body a 0\nload r0 0\nprint r0\nend\nbody b 0\nlet r0 1\nstore 0 9\nend\n";
 
-/// The tasks that have taken these steps.
+/// The tasks that have executed these steps.
 const STEPS: [&str; 8] = ["0", "0", "0", "0.1", "0.1", "0.2", "0.2", "0.2"];
 
 /// Whether the plan is for the core's cells, starts a task exactly in front of its first step, and
@@ -44,7 +44,7 @@ fn planned(rt: &(impl Abort + AllocGlobal), program: &Program, core: &Core, name
     made.expect(rt, name)
 }
 
-/// Whether the step was taken; it wasn't for want of memory, and then nothing has changed.
+/// Whether the step was executed; it wasn't for want of memory, and then nothing has changed.
 fn is_taken(
     rt: &(impl Abort + AllocGlobal),
     program: &Program,

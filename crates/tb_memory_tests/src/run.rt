@@ -13,7 +13,7 @@ const TEXT: &[u8] = b"cells 1\ncell 0 5\nbody main 0\ntask a\ntask b\ntaskgroup\
     task c depend out 0\ntask c depend in 0\nend\nend\nbody a 0\nload r0 0\nprint r0\nend\n\
     body b 0\nlet r0 1\nstore 0 9\nend\nbody c 0\nend\n";
 
-/// The tasks that have taken these steps.
+/// The tasks that have executed these steps.
 const STEPS: [&str; 13] = [
     "0", "0", "0", "0", "0", "0", "0.1", "0.1", "0.1", "0.2", "0.2", "0.2", "0.2",
 ];
@@ -64,7 +64,7 @@ pub fn take(rt: &(impl Abort + AllocGlobal), live: &mut Live, name: &str) {
     assert!(rt; taken.is_ok(), "{name}");
 }
 
-/// Takes the steps that the other tests begin with.
+/// Executes the steps that the other tests begin with.
 pub fn take_all(rt: &(impl Abort + AllocGlobal), live: &mut Live) {
     for name in STEPS {
         take(rt, live, name);

@@ -108,7 +108,7 @@ fn a_refused_growth_keeps_claims_and_journal(rt: HostRuntime) {
     mem::forget(live);
 }
 
-/// The number of the answer to the one move, and 100 where it is made.
+/// The code of the answer to the one move, and 100 where it is made.
 fn answer_of(answers: &[Answer]) -> u32 {
     match answers {
         [Answer::Step(Err(refusal))] => u32::from(refusal.number()),

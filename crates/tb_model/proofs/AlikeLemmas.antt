@@ -30,7 +30,7 @@ alike_trans a b = record {
   spawn = λ t. a.spawn t ∙ b.spawn t;
 }
 
--- alike histories stay alike behind one event
+-- alike histories stay alike after one event
 pub alike_cons : (v : Event) {G H : History} → Alike G H → Alike (v ∷ G) (v ∷ H)
 alike_cons v {G} {H} a = record {
   acts = λ t. ap (prepend_if (is_of t v) v.action) (a.acts t);

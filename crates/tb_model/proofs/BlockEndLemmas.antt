@@ -20,7 +20,7 @@ pub far_both : (xs ys : List (List ℕ)) → far_numbers (xs ++ ys) ≡ far_numb
 far_both [] ys = sym (append-nil (far_numbers ys))
 far_both (b ∷ xs) ys = ap (λ x. x ++ b) (far_both xs ys) ∙ append_assoc (far_numbers ys) (far_numbers xs) b
 
--- what stands in front of so many blocks at the root, and ends in these numbers
+-- what is before so many blocks at the root, and ends in these ordinals
 pub record IsFront (near : Name) (far : List (List ℕ)) (k : ℕ) (front : Name) : Type 0 where
   pub before : Name
   pub is : near ++ far_numbers far ≡ before ++ (front ++ far_numbers (take k far))
@@ -69,7 +69,7 @@ module _ (m : Name) (mf : List (List ℕ)) (c : Name) (cf : List (List ℕ)) (ow
       short_without (c ++ far_numbers cf) (m ++ far_numbers mf)
       (omega (arith, fewer, same, far_length mf own.full, far_length cf end.full, length-append m (far_numbers mf), length-append c (far_numbers cf)))
 
-  -- the end that has as many numbers decides
+  -- the end that has as many ordinals decides
   pub by_end : (front near : Name) → IsFront m mf (length cf) front → length cf ≤ length mf → length c ≤ length front
       → near ≡ take (length front - (length front - length c)) (drop (length front - length c) front)
       → is_within (c ++ far_numbers cf) (m ++ far_numbers mf) ≡ same_name (c ++ far_numbers cf) (near ++ far_numbers (take (length cf) mf))

@@ -1,4 +1,4 @@
--- Which numbers of a name that falls into blocks are mixed.
+-- Which ordinals of a name that falls into blocks are mixed.
 use borrow.Author.Tests.{lt-leb}
 use Rattle.std.proofs.lemmas.List.{take_rest}
 use Rattle.std.proofs.Common.{◌≡◌, ℕ, zero, suc, ◌+◌, ◌-◌, ◌*◌, ◌<◌, ◌≤◌, List, [], ◌∷◌, ◌++◌, length, take, drop, refl, sym, ap, ap₂, ◌∙◌, arith, append_assoc, length-append}
@@ -11,7 +11,7 @@ pub mixed_both : (d : ℕ) (a b : List ℕ) → mixed d (a ++ b) ≡ mixed (mixe
 mixed_both d [] b = refl
 mixed_both d (n ∷ a) b = mixed_both (((d * 2654435769) % 2 ^ 32 + n) % 2 ^ 32) a b
 
--- the numbers nearest to the root end the first block
+-- the ordinals nearest to the root end the first block
 pub far_first : (far : List (List ℕ)) (d : List ℕ) → 1 ≤ length far → far_numbers far ≡ far_numbers (others far) ++ slice_index_or far 0 d
 far_first [] d some = absurd (omega (arith, some))
 far_first (b ∷ far) d some = ap (λ f. far_numbers f ++ b) (sym (take_rest (b ∷ far) 1))
@@ -33,7 +33,7 @@ take_past (suc k) (n ∷ a) b le = ap (λ t. n ∷ t) (take_past k a b (omega (a
 long_digest : (depth : ℕ) (t : List ℕ) → 24 < length t → digest_of depth t ≡ mixed (mixed depth (take 16 t)) (drop (length t - 8) t)
 long_digest depth t long = rw (lt-leb (length t) 24 long) refl
 
--- sixteen numbers from those nearest to the task, and from those after them
+-- sixteen ordinals from those nearest to the task, and from those after them
 pub near_and_next : (near next : List ℕ) (d : ℕ) → length near < 16 → mixed (mixed d near) (take (16 - length near) next) ≡ mixed d (take 16 (near ++ next))
 near_and_next near next d few = sym (mixed_both d near (take (16 - length near) next)) ∙ ap (mixed d) (sym (take_past 16 near next (omega (arith, few))))
 

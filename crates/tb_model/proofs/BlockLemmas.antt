@@ -1,4 +1,4 @@
--- How the numbers of a name fall into blocks.
+-- How the ordinals of a name fall into blocks.
 use Rattle.std.proofs.lemmas.List.{take_rest}
 use Rattle.std.proofs.Common.{true≢false, eqb-true, not, nat_lt, le-ltb, lt-ltb, eq-eqb, ne_eqb, ◌≡◌, ◌⊎◌, inl, inr, ℕ, zero, suc, ◌+◌, ◌-◌, ◌*◌, ◌<◌, ◌≤◌, List, [], ◌∷◌, ◌++◌, Bool, true, false, ◌&&◌, ◌==◌, min, length, take, drop, length-drop, refl, sym, ap, ap₂, ◌∙◌, arith, append_assoc, append-nil, length-append, length-take, take-append-drop, subst}
 use Rattle.std.specs.Prelude.{slice_index_or}
@@ -29,7 +29,7 @@ far_last_at (b ∷ c ∷ far) zero d is = absurd (omega (arith, is))
 far_last_at (b ∷ c ∷ far) (suc k) d is =
     ap (λ x. x ++ b) (far_last_at (c ∷ far) k d (omega (arith, is))) ∙ append_assoc (slice_index_or (c ∷ far) k d) (far_numbers (take k (c ∷ far))) b
 
--- the numbers nearest to the task stand in the last block
+-- the ordinals nearest to the task are in the last block
 pub far_last : (far : List (List ℕ)) (d : List ℕ) → 0 < length far
     → far_numbers far ≡ slice_index_or far (length far - 1) d ++ far_numbers (take (length far - 1) far)
 far_last far d some = far_last_at far (length far - 1) d (omega (arith, some))
@@ -70,7 +70,7 @@ same_first : (x y : List ℕ) (left right : List (List ℕ)) → length left ≡
 same_first x y left right long full others =
     same_append (far_numbers left) (far_numbers right) x y (omega (arith, far_length left full, far_length right others, long))
 
--- a block that both begin with tells nothing
+-- a block that both begin with says nothing
 pub same_block : (left right : List (List ℕ)) (d e : List ℕ) → 0 < length left → length left ≡ length right → AreFull left → AreFull right
     → same_name (slice_index_or left 0 d) (slice_index_or right 0 e) ≡ true
     → same_name (far_numbers left) (far_numbers right) ≡ same_name (far_numbers (others left)) (far_numbers (others right))
@@ -95,7 +95,7 @@ full_others far full = full_take (length far - 1) (drop 1 far) (full_drop 1 far 
 pub length_others : (left right : List (List ℕ)) → length left ≡ length right → length (others left) ≡ length (others right)
 length_others left right long = ap length (take_rest left 1) ∙ length-drop 1 left ∙ ap (λ n. n - 1) long ∙ sym (length-drop 1 right) ∙ sym (ap length (take_rest right 1))
 
--- where there is a block there are numbers nearer to the task
+-- where there is a block there are ordinals nearer to the task
 pub has_near : (m : List ℕ) (f : List (List ℕ)) → IsSplit m f → (length f ≡ 0) ⊎ (0 < length m)
 has_near m [] split = inl refl
 has_near m (b ∷ f) split = inr (split.some (omega arith))
@@ -124,7 +124,7 @@ deep_length m f split some = let far = far_length f split.full in let long = len
 pub length_deep : (m : List ℕ) (f : List (List ℕ)) → IsSplit m f → 128 < length (m ++ far_numbers f) → 0 < length f
 length_deep m f split long = let far = far_length f split.full in let whole = length-append m (far_numbers f) in omega (arith, far, whole, split.short, long)
 
--- whether there are blocks tells whether the name is long
+-- whether there are blocks says whether the name is long
 pub deep_or_not : (m : List ℕ) (f : List (List ℕ)) (empty : Bool) → IsSplit m f → empty ≡ (length f == 0)
     → not empty ≡ nat_lt 128 (length (m ++ far_numbers f))
 deep_or_not m [] empty split is = ap not (is ∙ eq-eqb 0 0 refl) ∙ sym (le-ltb 128 (length (m ++ [])) (short m split.short))
@@ -133,7 +133,7 @@ deep_or_not m [] empty split is = ap not (is ∙ eq-eqb 0 0 refl) ∙ sym (le-lt
     short m few = omega (arith, few, ap length (append-nil m))
 deep_or_not m (b ∷ f) empty split is = ap not (is ∙ ne_eqb (suc (length f)) 0 (λ e. absurd (omega (arith, e)))) ∙ sym (lt-ltb 128 (length (m ++ far_numbers (b ∷ f))) (deep_length m (b ∷ f) split (omega arith)))
 
--- the last 128 numbers of those that are left become a block
+-- the last 128 ordinals of those that are left become a block
 pub more_blocks : (near : List ℕ) (far : List (List ℕ)) (b : List ℕ) (new : List (List ℕ)) (numbers : List ℕ)
     → b ≡ take (length near - (length near - 128)) (drop (length near - 128) near) → new ≡ far ++ b ∷ [] → 128 < length near
     → near ++ far_numbers far ≡ numbers → AreFull far
@@ -147,7 +147,7 @@ more_blocks near far b new numbers is pushed long named full =
       subst AreFull (sym pushed) (full_more far b full size),
     )
 
--- a number before 128 others, which become a block
+-- an ordinal before 128 others, which become a block
 pub grown_full : (n : ℕ) (near : List ℕ) (far : List (List ℕ)) (b : List ℕ) (new : List (List ℕ)) (one numbers : List ℕ)
     → IsSplit near far → near ++ far_numbers far ≡ numbers → 128 ≤ length near → b ≡ near → new ≡ far ++ b ∷ [] → one ≡ n ∷ []
     → IsDeep one new (n ∷ numbers)
@@ -183,7 +183,7 @@ pub is_zero : (n : ℕ) → true ≡ (n == 0) → n ≡ 0
 is_zero zero e = refl
 is_zero (suc n) e = eqb-true (suc n) 0 (sym e)
 
--- the one number nearest to the task, and the last block after it
+-- the one ordinal nearest to the task, and the last block after it
 pub one_and_last : (near : List ℕ) (far : List (List ℕ)) (last m numbers : List ℕ) → near ++ far_numbers far ≡ numbers
     → 1 ≤ length near → true ≡ (length (others near) == 0) → 1 ≤ length far → last ≡ slice_index_or far (length far - 1) last → m ≡ last
     → numbers ≡ slice_index_or near 0 0 ∷ (m ++ far_numbers (take (length far - 1) far))
@@ -193,7 +193,7 @@ one_and_last (n ∷ []) far last m numbers named some one more is same =
 one_and_last (n ∷ k ∷ near) far last m numbers named some one more is same =
     absurd (omega (arith, is_zero _ one, ap length (take_rest (n ∷ k ∷ near) 1)))
 
--- a name with 128 numbers nearest to the task, or with a block
+-- a name with 128 ordinals nearest to the task, or with a block
 pub at_least_full : (near : List ℕ) (far : List (List ℕ)) (numbers : List ℕ) → IsSplit near far → near ++ far_numbers far ≡ numbers
     → (128 ≤ length near) ⊎ (0 < length far) → 128 ≤ length numbers
 at_least_full near far numbers split named (inl full) = omega (arith, full, length-append near (far_numbers far), ap length named)
@@ -214,12 +214,12 @@ same_split k a b long =
     ∙ same_append (take k a) (take k b) (drop k a) (drop k b) (length-take k a ∙ ap (min k) long ∙ sym (length-take k b))
     ∙ ap₂ (λ x y. same_name (take k a) (take k b) && same_name x y) (sym (take_rest a k)) (sym (take_rest b k))
 
--- numbers that both begin with tell nothing
+-- ordinals that both begin with say nothing
 pub same_front : (k : ℕ) (a b : List ℕ) → length a ≡ length b → same_name (take k a) (take k b) ≡ true
     → same_name a b ≡ same_name (take (length a - k) (drop k a)) (take (length b - k) (drop k b))
 same_front k a b long same = same_split k a b long ∙ ap (λ t. t && same_name (take (length a - k) (drop k a)) (take (length b - k) (drop k b))) same
 
--- nor do those that both end with
+-- the ordinals that both end with don't change whether two names are the same
 pub same_filled : (k : ℕ) (a b : List ℕ) → length a ≡ length b → drop k a ≡ drop k b → same_name a b ≡ same_name (take k a) (take k b)
 same_filled k a b long same =
     same_split k a b long

@@ -30,7 +30,7 @@ front_first [] (l ∷ b) x y long = absurd (omega (arith, long))
 front_first (k ∷ a) [] x y long = absurd (omega (arith, long))
 front_first (k ∷ a) (l ∷ b) x y long = ap (ordering_then (nat_cmp k l)) (front_first a b x y (omega (arith, long))) ∙ then_then (nat_cmp k l) (slice_cmp nat_cmp a b) (slice_cmp nat_cmp x y)
 
--- a front with more after it, beside a list that is no longer than it
+-- a front with more after it, next to a list that is no longer than it
 longer : (a x b : List ℕ) → length b ≤ length a → 0 < length x → slice_cmp nat_cmp (a ++ x) b ≡ ordering_then (slice_cmp nat_cmp a b) Greater
 longer [] [] [] le some = absurd (omega (arith, some))
 longer [] (k ∷ x) [] le some = refl
@@ -50,7 +50,7 @@ decided Less p e = refl
 decided Equal p e = absurd (true≢false e)
 decided Greater p e = refl
 
--- names whose last numbers differ are ordered by these
+-- names whose last ordinals differ are ordered by these
 pub last_decides : (x a y b : Name) → length a ≡ length b → same_name a b ≡ false → name_cmp (x ++ a) (y ++ b) ≡ name_cmp a b
 last_decides x a y b long differ =
     ap₂ (slice_cmp nat_cmp) (reverse-append x a) (reverse-append y b)
@@ -107,7 +107,7 @@ module _ (a b m n : Name) (left right : List (List ℕ)) (ordered : AreOrdered a
       sym (ordered ∙ ap₂ name_cmp (no_blocks m left none) (with_first n y e right some' is' same')
       ∙ shorter_is_less m (n ++ far_numbers (others right)) y le (omega (arith, near, length-append n (far_numbers (others right)))))
 
--- where one has no more numbers, that one comes first
+-- where one has no more ordinals, that one comes first
 pub none_left : (xs ys : Name) → length xs < 1 → nat_cmp 0 (length ys) ≡ name_cmp xs ys
 none_left [] [] none = refl
 none_left [] (n ∷ ys) none = sym (nat_cmp_is 0 (suc (length ys)) Less (omega arith)) ∙ sym (shorter [] [] (reverse (n ∷ ys)) (omega arith) (omega (arith, length-reverse (n ∷ ys))))

@@ -166,6 +166,6 @@ module _ (cells : Cells) (H : History) (l : Legal cells H) (wants : Name → Act
   down (suc k) t d sp =
       all_of (suc k) (suc (number t)) t d (omega arith) (λ u q lt. down k u (omega arith) q) sp
 
-  -- by depth, the deepest tasks first; among equally deep ones by their number
+  -- by depth, the deepest tasks first; among equally deep ones by their ordinal
   pub no_dead_end : (t : Name) → IsSpawned H t → HasEnded H t
   no_dead_end t sp = down (suc (deepest H)) t (omega arith) sp

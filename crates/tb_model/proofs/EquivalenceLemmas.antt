@@ -22,7 +22,7 @@ use Rattle.tb_model.proofs.RunLemmas as runs
 use Rattle.tb_model.proofs.RunLemmas.{Run, moved_run}
 use Rattle.tb_model.proofs.PartsLemmas.{all_stay}
 
--- ---- steps that stand
+-- ---- steps that are there
 
 step_bound : (i : StepId) (H : History) (v : Event) → is_step i H v ≡ true → i.k ≤ length (own i.task (v ∷ H))
 step_bound i H v h =
@@ -45,7 +45,7 @@ second_stands j i [] h = absurd (false≢true h)
 second_stands j i (v ∷ H) h =
     ⊎_elim (λ a. or_left (is_step i H v) _ (and_parts (is_step i H v) (needs_step H v j H) a).0) (λ b. or_right (is_step i H v) _ (second_stands j i H b)) (or_cases (is_step i H v && needs_step H v j H) _ h)
 
--- a step that stands in front isn't the one behind
+-- a step that is in front isn't the one after
 not_here : (i : StepId) (H : History) (v : Event) → i.k ≤ length (own i.task H) → is_step i H v ≡ false
 not_here i H v h = false_from_ne_true (is_step i H v) (λ s.
     let o = and_parts (is_of i.task v) (i.k == suc (length (own i.task H))) s in
@@ -75,7 +75,7 @@ newest_of t a acts (v ∷ H) e = at (newest_of t a acts H) (is_of t v) refl
         let n = rest (sym (own_other t v H o) ∙ e) in
         record { later = v ∷ n.later; front = n.front; split = ap (λ K. v ∷ K) n.split; none = ap₂ (λ b c. b || c) o n.none; rest = n.rest }
 
--- ---- an event of t is left out, behind which t has none
+-- ---- an event of t is left out, after which t has none
 
 module _ (v : Event) where
   own_apart : (t : Name) (b front : History) → is_of t v ≡ false → own t (b ++ v ∷ front) ≡ own t (b ++ front)
@@ -147,7 +147,7 @@ module _ (v : Event) where
   needed H x [] front h = or_left (is_step (step_of front v) front v && needs H x v) _ (and_from (is_step (step_of front v) front v) (needs H x v) (here front) h)
   needed H x (y ∷ b) front h = or_right (is_step (step_of front v) (b ++ v ∷ front) y && needs H x y) _ (needed H x b front h)
 
-  -- where nothing behind it comes with a need, all behind it is free
+  -- where nothing after it comes with a need, all after it is free
   free_of : (b front : History) → ((i : StepId) → needs_in i (step_of front v) (b ++ v ∷ front) ≡ true → ⊥) → AreFree v front b
   free_of [] front h = tt
   free_of (x ∷ b) front h =
@@ -159,7 +159,7 @@ module _ (v : Event) where
             (and_from (is_step (step_of H x) H x) (needs_step H x (step_of front v) H) (and_from (is_of x.task x) _ (same_refl x.task) (eq-eqb (suc (length (own x.task H))) _ refl)) (needed H x b front q)))),
       )
 
--- what is needed stands there
+-- what is needed is there
 pub needed_stands : (H : History) (x : Event) (j : StepId) (K : History) → needs_step H x j K ≡ true → stands j K ≡ true
 needed_stands H x j [] h = absurd (false≢true h)
 needed_stands H x j (u ∷ K) h =
@@ -174,7 +174,7 @@ put_same : {A : Type 0} (c : Bool) (x : A) (xs ys : List A) → prepend_if c x x
 put_same true x xs ys e = cc
 put_same false x xs ys e = e
 
--- a step that stands in G isn't the newest of v's task
+-- a step that is in G isn't the newest of v's task
 not_newest : (v : Event) (G front : History) → own v.task front ≡ own v.task G → (i : StepId) → stands i G ≡ true → is_step i front v ≡ false
 not_newest v G front e i h = at (is_of i.task v) refl
   where

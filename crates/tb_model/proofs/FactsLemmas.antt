@@ -1,4 +1,4 @@
--- What every legal history keeps.
+-- What every legal history retains.
 use Rattle.std.proofs.Common.{◌≡◌, ◌≢◌, ◌≤◌, ℕ, suc, List, [], ◌∷◌, Bool, true, false, ◌||◌, not, ◌⊎◌, inl, inr, ⊎_elim, refl, sym, ap, ◌∙◌, subst, IsTrue, arith, map, drop, cond, nat_lt, ◌++◌, ◌<◌, ltb-true}
 use Rattle.std.specs.List.{list_any, AllByRecursion}
 use Rattle.std.proofs.lemmas.Bool.{or_cases, or_left, or_right, and_parts, both_ways, cases_Bool, false≢true, false_from_ne_true}
@@ -12,7 +12,7 @@ use Rattle.tb_model.proofs.TestLemmas.{same_true, same_refl, any_weaker}
 
 -- ---- one's own actions
 
--- the actions that a task has behind an event of its own, and of another
+-- the actions that a task has after an event of its own, and of another
 pub own_mine : (t : Name) (v : Event) (H : History) → is_of t v ≡ true → own t (v ∷ H) ≡ v.action ∷ own t H
 own_mine t v H e = ap (λ b. prepend_if b v.action (own t H)) e
 
@@ -68,7 +68,7 @@ cons_head e = cc
 pub cons_tail : {m n : ℕ} {t u : Name} → ◌≡◌ {A = Name} (m ∷ t) (n ∷ u) → t ≡ u
 cons_tail e = cc
 
--- a child that was generated has a number that its parent has reached
+-- a child that was generated has an ordinal that its parent has reached
 pub spawn_bound : (cells : Cells) (H : History) (n : ℕ) (t : Name) → Legal cells H → list_any (spawns (n ∷ t)) H ≡ true → n ≤ spawn_count (own t H)
 spawn_bound cells [] n t l h = absurd (false≢true h)
 spawn_bound cells (v ∷ H) n t l h =
@@ -140,7 +140,7 @@ no_acts t (v ∷ H) e = at (no_acts t H) (is_of t v) refl
     at rest true o = absurd (cc (own_mine t v H o))
     at rest false o = ap (λ b. b || list_any (is_of t) H) o ∙ rest (sym (own_other t v H o) ∙ e)
 
--- so no test of its own events passes
+-- of a task without actions no event passes a test of its own events
 pub not_started : (t : Name) (H : History) (p : Event → Bool) → ((v : Event) → p v ≡ true → is_of t v ≡ true) → own t H ≡ [] → list_any p H ≡ true → ⊥
 not_started t H p f e h = both_ways (list_any (is_of t) H) (no_acts t H e) (any_weaker p (is_of t) f H h)
 
@@ -176,9 +176,9 @@ not_running cells (v ∷ H) t l h r =
             (λ q. rest e (subst (λ u. IsRunning (own u H)) n q))
             (begun cells v.task (own v.task H) v.action l.1.own)
 
--- ---- the child that a task stands at
+-- ---- the child that a task waits for
 
--- it is one of its children, and was spawned
+-- the undeferred child for which a task waits is one of its children, and was spawned
 pub held_child : (cells : Cells) (H : History) (t u : Name) → Legal cells H → holds (own t H) u ≡ true → (is_child t u ≡ true) × (list_any (spawns u) H ≡ true)
 held_child cells [] t u l h = absurd (false≢true h)
 held_child cells (v ∷ H) t u l h = at (held_child cells H t u l.0) (is_of t v) refl h
@@ -238,7 +238,7 @@ group_children cells (v ∷ H) t l = at (group_children cells H t l.0) (is_of t 
         groups_step cells t (own t H) v.action (subst (λ u. Continues cells u (own u H) v.action) (same_true v.task t o) l.1.own) rest
     at rest false o = rest
 
--- those of the innermost group too
+-- the children of the innermost group are children of the task too
 pub first_children : (t : Name) (gs : List (List Name)) → AllByRecursion (AreChildren t) gs → AreChildren t (innermost gs)
 first_children t [] g = tt
 first_children t (us ∷ gs) g = g.0

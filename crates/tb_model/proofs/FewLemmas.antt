@@ -1,4 +1,4 @@
--- Small numbers that stand in a name itself, and how they are lent.
+-- Small ordinals that are in a name itself, and how they are lent.
 use Rattle.std.proofs.lemmas.List.{drop-drop, drop-take, take-take, append-nil, take-append-le, drop-append-le, take_all}
 use Rattle.std.proofs.Common.{◌≡◌, ℕ, suc, ◌+◌, ◌-◌, ◌<◌, ◌≤◌, List, [], ◌∷◌, ◌++◌, false, length, take, drop, length-take, refl, sym, ap, ◌∙◌, subst, arith}
 use Rattle.tb_model.specs.Names.{same_name}
@@ -22,7 +22,7 @@ module _ {m n : ℕ} {a b : List ℕ} (own : IsFilled m a) (others : IsFilled n 
   by_count unlike =
       different (take m a) (take n b) (λ e. unlike (sym (length_few m a long own.few) ∙ e ∙ length_few n b its others.few))
 
--- the numbers after the first
+-- the ordinals after the first
 pub after_first : (numbers : List ℕ) (from to : ℕ) → from < to → take (to - (from + 1)) (drop (from + 1) numbers) ≡ drop 1 (take (to - from) (drop from numbers))
 after_first numbers from to lt =
     let left = to - (from + 1) in
@@ -32,7 +32,7 @@ after_first numbers from to lt =
 pub some_left : (numbers : List ℕ) (from to : ℕ) → 0 < length (take (to - from) (drop from numbers)) → from < to
 some_left numbers from to some = omega (arith, some, length-take (to - from) (drop from numbers))
 
--- ---- one number more, and one less
+-- ---- one ordinal more, and one less
 
 zeros_shorter : (d : ℕ) → d ≤ 13 → drop d no_bytes ≡ drop d (drop 1 no_bytes) ++ 0 ∷ []
 zeros_shorter d h = drop-append-le d (drop 1 no_bytes) (0 ∷ []) h

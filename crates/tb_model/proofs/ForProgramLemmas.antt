@@ -45,7 +45,7 @@ swap_follow P e f H l n =
       l.1.0.1 ∙ sym (planned_other P f H e.task (loaded e.action) not_f (not_again P.cells H l.0.0.0 f mf e.task (may_spawned P.cells H e l.0.0.0 l.0.0.1))),
     )
 
--- changes of places keep a program's runs
+-- changes of places retain a program's runs
 pub run_for : (P : Program) {G H : History} → LegalFor P G → Run G H → LegalFor P H
 run_for P l r = ((run_same P.cells l.0 r).legal, at r l)
   where
@@ -61,7 +61,7 @@ pub equivalent_next : (P : Program) (G H : History) (v : Event) → Legal P.cell
 equivalent_next P G H v l q =
     let a = (equivalent_state P.cells G H l q).0 in (next_alike P a v, next_alike P (alike_sym a) v)
 
--- a run is settled by who takes its steps
+-- a run is settled by who executes its steps
 pub one_run : (P : Program) (G H : History) → LegalFor P G → LegalFor P H → map (λ (v : Event). v.task) G ≡ map (λ (v : Event). v.task) H → G ≡ H
 one_run P [] [] l m e = refl
 one_run P [] (w ∷ H) l m e = cc

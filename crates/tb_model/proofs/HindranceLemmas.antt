@@ -1,4 +1,5 @@
--- What keeps a task from an action: the function finds the first, and nothing is found exactly where the event may follow.
+-- What blocks a task's action: the function finds the first, and nothing is found exactly where the
+-- event may follow.
 use Rattle.std.proofs.Common.{◌≡◌, List, [], ◌∷◌, Bool, true, false, ◌&&◌, not, ◌⊎◌, inl, inr, ⊎_elim, ◌↔◌, refl, sym, ap, ap₂, ◌∙◌, subst, IsTrue, Option, Some, None, option_map}
 use Rattle.std.specs.List.{list_any}
 use Rattle.std.specs.Option.{option_or}
@@ -231,6 +232,6 @@ module _ (cells : Cells) (H : History) (t : Name) where
 pub nothing_in_the_way : (cells : Cells) (H : History) (t : Name) (a : Action) → IsSpawned H t → Continues cells t (own t H) a → loaded a ≡ number_read cells H a → (in_the_way H t a ≡ None) ↔ MayFollow cells H (record { task = t; action = a })
 nothing_in_the_way cells H t a s k q = (may_follow cells H t a s k q, nothing_way cells H t a)
 
--- an action that may follow is kept by nothing
+-- an action that may follow is blocked by nothing
 pub nothing_keeps : (cells : Cells) (H : History) (t : Name) (a : Action) → MayFollow cells H (record { task = t; action = a }) → in_the_way H t a ≡ None
 nothing_keeps cells H t a m = nothing_way cells H t a m

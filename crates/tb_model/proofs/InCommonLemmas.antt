@@ -1,4 +1,4 @@
--- Numbers that two names have in common at the end don't decide their order.
+-- Ordinals that two names have in common at the end don't decide their order.
 use Rattle.std.proofs.Common.{◌≡◌, ◌≤◌, ◌==◌, ℕ, ◌-◌, Bool, List, [], ◌∷◌, ◌++◌, true, false, take, drop, reverse, refl, ap, ap₂, sym, ◌∙◌, arith, take-add}
 use Rattle.std.specs.declared.cmp.Ordering.TheVariants.{Equal}
 use Rattle.std.specs.Cmp.{nat_cmp_is}
@@ -25,7 +25,7 @@ name_cmp-append x y s = ap₂ (slice_cmp nat_cmp) (reverse-append x s) (reverse-
 pub same_is : (a b : Name) → same_name a b ≡ true → a ≡ b
 same_is a b h = (bytes_eq-Decides a b).0 (pointwise_same a b ∙ h)
 
--- numbers made of eight bytes each, which give the bytes back, tell whether these are the same
+-- numbers made of eight bytes each, which give the bytes back, say whether these are the same
 pub by_number : (a b : List ℕ) (m n : ℕ) → m ≡ from_le_bytes w64 a → n ≡ from_le_bytes w64 b → to_le_bytes w64 m ≡ a → to_le_bytes w64 n ≡ b → (m == n) ≡ same_name a b
 by_number a b m n of_a of_b bytes others = decided (m == n) refl
   where
@@ -40,11 +40,11 @@ by_number a b m n of_a of_b bytes others = decided (m == n) refl
     decided true e = e ∙ sym (alike (eqb-true m n e))
     decided false e = e ∙ sym (unlike (eqb-false m n e) (same_name a b) refl)
 
--- a front, and what stands behind it up to m
+-- a front, and what is after it up to m
 front_and_rest : (a : Name) (i m : ℕ) → i ≤ m → take m a ≡ take i a ++ take (m - i) (drop i a)
 front_and_rest a i m le = ap (λ k. take k a) (omega arith) ∙ take-add i (m - i) a
 
--- numbers that two names share, taken off both, don't change their order
+-- ordinals that two names share, taken off both, don't change their order
 pub name_cmp_without : (a b : Name) (i m j n : ℕ) → i ≤ m → j ≤ n → same_name (take (m - i) (drop i a)) (take (n - j) (drop j b)) ≡ true → name_cmp (take i a) (take j b) ≡ name_cmp (take m a) (take n b)
 name_cmp_without a b i m j n le le' h =
     sym (name_cmp-append (take i a) (take j b) (take (n - j) (drop j b)))

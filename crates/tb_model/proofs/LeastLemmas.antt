@@ -24,7 +24,7 @@ put_here : {A : Type 0} (p : A → Bool) (b : Bool) (x : A) (xs : List A) → b 
 put_here p b x xs e h = subst (λ c. list_any p (prepend_if c x xs) ≡ true) (sym e) (or_left (p x) (list_any p xs) h)
 
 module _ (u : Event) (front : History) where
-  -- behind the step itself no event is the step
+  -- after the step itself no event is the step
   pub later_not_step : (b : History) (w : Event) → is_step (step_of front u) (b ++ u ∷ front) w ≡ false
   later_not_step b w =
       let n : suc (length (own u.task front)) ≤ length (own u.task (b ++ u ∷ front)) = own_more b in
@@ -38,7 +38,7 @@ module _ (u : Event) (front : History) where
   pub gone_here : is_removed (step_of front u) front u ≡ true
   gone_here = or_left (is_step (step_of front u) front u) _ (its_step front u)
 
-  -- what was removed is the step or stands behind it
+  -- what was removed is the step or is after it
   record Found (p : Event → Bool) (b : History) : Type 0 where
     who : Event
     after : History

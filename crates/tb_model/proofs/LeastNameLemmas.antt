@@ -23,7 +23,7 @@ backward t u = name_cmp_total.antisymm t u
 pub at_most_itself : (t : Name) → IsAtMost t t
 at_most_itself t e = cc (backward t t, e, ap ordering_reverse e)
 
--- a name behind another has it in front
+-- a name after another has it in front
 at_most_other : (t u : Name) → name_cmp t u ≡ Greater → IsAtMost u t
 at_most_other t u e f = cc (backward t u, e, ap ordering_reverse f)
 

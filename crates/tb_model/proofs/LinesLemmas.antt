@@ -1,4 +1,5 @@
--- The lines that a history keeps are those at which the program's tasks stand; registers by the last `let` or `load`.
+-- The lines that a history retains are those at which the program's tasks are; registers by the
+-- last `let` or `load`.
 use Rattle.std.proofs.Common.{◌≡◌, ◌≢◌, ◌<◌, ℕ, zero, suc, List, [], ◌∷◌, ◌++◌, length, Bool, true, false, cond, not, refl, sym, ap, ap₂, ◌∙◌, ℤ, arith, replicate, set, get_or, ◌==◌, eq-eqb, eqb-true, Some, subst}
 use Rattle.std.specs.List.{list_any}
 use Rattle.std.proofs.lemmas.Bool.{both_ways, or_parts}
@@ -73,7 +74,7 @@ register_more P line args acts r b rest a = at a
     at (Test false) = rest
     at _ = rest
 
--- a register as the program has it is the last number given to it
+-- a register as the program has it is the last value given to it
 pub registers : (P : Program) (line : ℕ) (args : List ℤ) (acts : List Action) (r : ℕ) → r < 16 → get_or (config P line args acts).regs r (ℤ.pos 0) ≡ register r args acts
 registers P line args [] r b = get_or-take 16 (args ++ replicate 16 (ℤ.pos 0)) r (ℤ.pos 0) b ∙ padded args r b
 registers P line args (a ∷ acts) r b = register_more P line args acts r b (registers P line args acts r b) a
@@ -109,7 +110,7 @@ line_begun P body t (d ∷ D) f l n = at (is_of t d.event) refl (line_begun P bo
         let s = not_again P.cells (events_of D) l.0.0 d.event l.0.1 t (acted_spawned P.cells (events_of D) t l.0.0 m) in
         rest m ∙ ap (λ c. c.line) (sym (situation_other P t d.event (events_of D) o s))
 
--- the line that the history keeps for a task is the line at which it stands
+-- the line that the history retains for a task is the line at which it is
 pub line_kept : (P : Program) (D : List Departure) (t : Name) → LinesFit P D → LegalFor P (events_of D) → line_of (called P t (events_of D)).line t D ≡ (situation P t (events_of D)).line
 line_kept P D t f l = at (own t (events_of D)) refl
   where
@@ -122,7 +123,7 @@ line_kept P D t f l = at (own t (events_of D)) refl
         cons : a ∷ acts ≡ [] → ⊥
         cons e = cc
 
--- ---- what is left keeps its lines
+-- ---- what is left retains its lines
 
 -- the events that are left are those left without lines
 pub events_left : (e : StepId) (D : List Departure) → events_of (without_lines e D) ≡ without e (events_of D)

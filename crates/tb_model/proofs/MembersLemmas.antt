@@ -1,4 +1,5 @@
--- The members of an open group are told by one number: how many children its task had generated when it was opened.
+-- The members of an open group are known by one ordinal: how many children its task had generated
+-- when it was opened.
 use Rattle.std.proofs.Common.{◌≡◌, ◌≤◌, ℕ, suc, List, [], ◌∷◌, length, Bool, true, false, cond, ◌&&◌, ◌||◌, ⊎_elim, refl, sym, ap, ap₂, ◌∙◌, subst, arith, ◌==◌, nat_lt, nat_le}
 use Rattle.std.specs.List.{list_any}
 use Rattle.std.proofs.lemmas.Bool.{or_cases, false≢true, le-leb}
@@ -13,12 +14,12 @@ use Rattle.tb_model.proofs.TestLemmas.{same_true}
 use Rattle.tb_model.proofs.FactsLemmas.{spawn_names, spawn_bound, cons_tail, grown}
 use Rattle.tb_model.proofs.NeedsLemmas.{may_spawned}
 
--- m is a child of t with a number above lo and at most hi, or a descendant of one
+-- m is a child of t with an ordinal above lo and at most hi, or a descendant of one
 abbrev is_between : Name → ℕ → ℕ → Name → Bool
 is_between t lo hi [] = false
 is_between t lo hi (j ∷ m) = ((nat_lt lo j && nat_le j hi) && same_name t m) || is_between t lo hi m
 
--- ---- numbers
+-- ---- ordinals
 
 none_between : (j hi : ℕ) → (nat_lt hi j && nat_le j hi) ≡ false
 none_between j hi = grind (arith)
@@ -85,7 +86,7 @@ members_between cells (v ∷ H) t k m l = at (is_of t v) refl (members_between c
         since_more cells t k m (own t H) v.action (subst (λ u. Continues cells u (own u H) v.action) (same_true v.task t o) l.1.own) e
     at false o e = e
 
--- ---- of those that were generated, none has a higher number
+-- ---- of those that were generated, none has a higher ordinal
 
 parent_spawned : (cells : Cells) (H : History) (j : ℕ) (p : Name) → Legal cells H → list_any (spawns (j ∷ p)) H ≡ true → IsSpawned H p
 parent_spawned cells [] j p l h = absurd (false≢true h)
@@ -118,7 +119,7 @@ within_count cells H t lo (j ∷ p) l s =
         at_most (nat_lt lo j) (nat_le j (spawn_count (own t H))) (le-leb j (spawn_count (own t H)) n)
     at false e = never (nat_lt lo j) (nat_le j (spawn_count (own t H)))
 
--- of the tasks that were generated, the members are those behind the number
+-- of the tasks that were generated, the members are those after the ordinal
 pub members_by_number : (cells : Cells) (H : History) (t : Name) (k : ℕ) (m : Name) → Legal cells H → IsSpawned H m → is_member_of k (own t H) m ≡ is_later t (children_at k (own t H)) m
 members_by_number cells H t k m l s =
     members_between cells H t k m l ∙ within_count cells H t (children_at k (own t H)) m l s

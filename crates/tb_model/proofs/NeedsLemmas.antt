@@ -60,7 +60,7 @@ pub step_needs_alike : {G H : History} → Alike G H → (v : Event) (j : StepId
 step_needs_alike {G} {H} a v j =
     by_acts G v j G ∙ kth_alike a v j (own j.task G) ∙ ap (needs_kth H v j) (a.acts j.task) ∙ sym (by_acts H v j H)
 
--- alike histories have the same next numbers of steps
+-- alike histories have the same next ordinals of steps
 pub step_alike : {G H : History} → Alike G H → (i : StepId) (v : Event) → is_step i G v ≡ is_step i H v
 step_alike a i v = ap (λ acts. is_of i.task v && (i.k == suc (length acts))) (a.acts i.task)
 
@@ -103,7 +103,7 @@ may_spawned cells H v l m =
     ⊎_elim (λ s. timely_start cells H v.task v.action s m.timely) (λ r. acted_spawned cells H v.task l (running_acts (own v.task H) r))
     (begun cells v.task (own v.task H) v.action m.own)
 
--- a task that has acted, and that an event comes behind, has ended
+-- a task that has acted, and that an event comes after, has ended
 ended_first : (cells : Cells) (H : History) (t : Name) (a : Action) (u : Name) → Legal cells H → ((w : Name) → holds (own t H) w ≡ true → HasEnded H w) → IsTimely cells H t a → own u H ≢ [] → needs_end_of H t a u ≡ true → HasEnded H u
 ended_first cells H t a u l r m n h =
     ⊎_elim (λ x. r u x) (λ x. at a m x) (or_cases (holds (own t H) u) (waits_for H t a u) h)
@@ -122,7 +122,7 @@ ended_first cells H t a u l r m n h =
     at End m h = absurd (false≢true h)
     at Fault m h = absurd (false≢true h)
 
--- g, of another task, stands behind H: what an event needs of H stays as it was
+-- g, of another task, is after H: what an event needs of H stays as it was
 module _ (cells : Cells) (H : History) (l : Legal cells H) (g : Event) (mg : MayFollow cells H g) where
   kept : (u : Name) → IsSpawned H u → items_of u (g ∷ H) ≡ items_of u H
   kept u s = items_stay cells H l g mg u (not_again cells H l g mg u s)
@@ -185,7 +185,7 @@ module _ (cells : Cells) (H : History) (e f : Event) (l : Legal cells (f ∷ e �
   not_f : is_of e.task f ≡ false
   not_f = same_sym e.task f.task not_e
 
-  -- the earlier, behind the later, doesn't need it
+  -- the earlier, after the later, doesn't need it
   pub back_free : needs (f ∷ H) e f ≡ false
   back_free = false_from_ne_true (needs (f ∷ H) e f) (λ h.
       ⊎_elim (λ a. both_ways (is_of e.task f) not_f a)
@@ -378,7 +378,7 @@ equivalent cells G H l q = run_same cells l (equivalent_run cells H G l q)
 turned : {G H : History} → Equivalent G H → Equivalent H G
 turned q = record { acts = λ t. sym (q.acts t); there = q.back; back = q.there }
 
--- so they are alike, with the same needs
+-- equivalent histories are alike, with the same needs
 pub equivalent_state : (cells : Cells) (G H : History) → Legal cells G → Equivalent G H → Alike G H × ((i j : StepId) → needs_in i j G ≡ needs_in i j H)
 equivalent_state cells G H l q = let s = equivalent cells G H l (turned q) in (s.alike, s.needs)
 

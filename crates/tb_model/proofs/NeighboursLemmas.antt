@@ -56,7 +56,7 @@ or_swap true false c = refl
 or_swap false true c = refl
 or_swap false false c = refl
 
--- both spawn one task: they are of one task
+-- two events that both spawn one task are of one task
 items_swap : (p : Item → Bool) (t : Name) (e f : Event) (H : History) → list_any p (items_of t (f ∷ e ∷ H)) ≡ list_any p (items_of t (e ∷ f ∷ H))
 items_swap p t e f H =
     let i = items_for t e.action in
@@ -76,7 +76,7 @@ spawn_swap true false a b o h = refl
 spawn_swap false true a b o h = refl
 spawn_swap false false a b o h = refl
 
--- so the two orders are alike
+-- the two orders of independent neighbours are alike
 pub swap_alike : (e f : Event) (H : History) → is_of e.task f ≡ false → conflicts f.action e.action ≡ false → (is_print f.action && is_print e.action) ≡ false → ((t : Name) → spawns t e ≡ true → spawns t f ≡ true → ⊥) → Alike (f ∷ e ∷ H) (e ∷ f ∷ H)
 swap_alike e f H o c p s = record {
   acts = λ t. own_swap t e f H o;
@@ -87,7 +87,7 @@ swap_alike e f H o c p s = record {
   spawn = λ t. spawn_swap (is_spawn_of t e.action) (is_spawn_of t f.action) e.action f.action (spawn_of t H) (s t);
 }
 
--- ---- the earlier one behind the later
+-- ---- the earlier one after the later
 
 -- there is one start
 pub start_only : (a : Action) → is_start a ≡ true → a ≡ Start
@@ -127,7 +127,7 @@ module _ (cells : Cells) (H : History) (l : Legal cells H) (t : Name) (f : Event
   apart_kept u h k =
       ap₂ (λ i j. (is_elder u t && some_meet is_apart i j) || (is_elder t u && some_meet is_apart j i)) (items_stay cells H l f mf t k) (items_stay cells H l f mf u h)
 
-  -- who starts apart from t isn't there while t is under way
+  -- who excludes t doesn't start while t is under way
   not_beside : (own t H ≡ []) → MayFollow cells (record { task = t; action = Start } ∷ H) f → is_start f.action ≡ true → apart (f ∷ H) f.task t ≡ true → ⊥
   not_beside fresh me s b =
       let st = start_only f.action s in

@@ -19,7 +19,7 @@ use Rattle.tb_model.proofs.PartsLemmas.{Parts, own_same}
 use Rattle.tb_model.proofs.RemovalLemmas.{needs_own, needs_spawn, in_parts, removal}
 use Rattle.tb_model.proofs.RecordsLemmas.{spawn_same}
 
--- a statement's action doesn't depend on the number read, or is a load of it
+-- a statement's action doesn't depend on the value read, or is a load of it
 Reads : (ℤ → Action) → Type 0
 Reads f = ((x y : ℤ) → f x ≡ f y) ⊎ ((r : ℕ) × (c : ℕ) × ((x : ℤ) → f x ≡ Load r c x))
 
@@ -44,7 +44,7 @@ same_action cells H t f a b (inr k) p q m n =
     let y : loaded b ≡ last (first_number cells c) c H = subst (IsTimely cells H t) q' n in
     p' ∙ ap (Load k.0 c) (x ∙ sym y) ∙ sym q'
 
--- so there is one next event of a task
+-- there is at most one next event of a task
 pub one_next : (P : Program) (H : History) (v w : Event) → IsNext P H v → IsNext P H w → v.task ≡ w.task → v ≡ w
 one_next P H v w m n e =
     let k = called P v.task H in

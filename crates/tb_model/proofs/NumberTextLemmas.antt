@@ -1,4 +1,4 @@
--- The texts of numbers and of levels that are pushed as digits.
+-- The texts of ordinals and of levels that are pushed as digits.
 use Rattle.std.proofs.Common.{◌≡◌, ℕ, zero, suc, ◌+◌, ◌-◌, ◌*◌, ◌<◌, ◌≤◌, true, set, take-append-drop, take-suc-set, length-set, take_all, length, take, drop, List, [], ◌∷◌, ◌++◌, ap, ap₂, sym, ◌∙◌, subst, arith, append_assoc, append-nil, if◌then◌else◌, Result, Ok, Err, OnOk, decimal}
 use Rattle.std.proofs.lemmas.Fmt.{decimal_digit}
 use Rattle.std.proofs.lemmas.List.{drop_more, take-append-drop, take_rest}
@@ -38,7 +38,7 @@ levels_are_text ns digits = IsUtf8-from_ascii (levels_text ns) (levels_are_ascii
     levels_are_ascii (n ∷ ns) digits =
         level_is_ascii (levels_text ns) n (ltb-true n 10 (first_so (is_digit n) _ digits)) (levels_are_ascii ns (second_so (is_digit n) _ digits))
 
--- what is appended to the old text are the levels of all numbers but those that are still to come
+-- what is appended to the old text are the levels of all ordinals but those that are still to come
 abbrev pub IsNamed : (old numbers rest text : List ℕ) → Type 0
 IsNamed old numbers rest text = (t : List ℕ) × (numbers ≡ rest ++ t) × (text ≡ old ++ levels_text t)
 
@@ -103,7 +103,7 @@ pub levels_both : (m t : List ℕ) → levels_text (m ++ t) ≡ levels_text t ++
 levels_both [] t = sym (append-nil (levels_text t))
 levels_both (n ∷ m) t = ap (λ x. x ++ 46 ∷ decimal n) (levels_both m t) ∙ append_assoc (levels_text t) (levels_text m) (46 ∷ decimal n)
 
--- the levels of the last numbers of those that are left
+-- the levels of the last ordinals of those that are left
 pub levels_more : (old numbers rest text new : List ℕ) (at : ℕ) → IsNamed old numbers rest text
     → new ≡ text ++ levels_text (take (length rest - at) (drop at rest)) → IsNamed old numbers (take at rest) new
 levels_more old numbers rest text new at named told =

@@ -1,4 +1,5 @@
--- The order of names below one task: the task first, then its children by their numbers, each with its descendants.
+-- The order of names below one task: the task first, then its children by their ordinals, each with
+-- its descendants.
 use Rattle.std.proofs.Common.{◌≡◌, ◌≢◌, ℕ, ◌<◌, List, [], ◌∷◌, ◌++◌, reverse, refl, sym, ap₂, ◌∙◌, arith, append_assoc}
 use Rattle.std.specs.Ordering.{nat_cmp}
 use Rattle.std.specs.Cmp.Lexicographic.{slice_cmp}

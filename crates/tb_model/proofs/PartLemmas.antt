@@ -110,7 +110,7 @@ spelled_end text at l none = ap (λ ps. reverse (map (λ p. digits_value 10 p) (
 
 -- ---- a name is written as it is spelled
 
--- what stands behind the first part
+-- what is after the first part
 abbrev behind : List (List ℕ) → List ℕ
 behind [] = []
 behind (p ∷ ps) = 46 ∷ (p ++ behind ps)

@@ -59,7 +59,7 @@ own_same t (goes {x = v} {xs = H} {rs = R} s) n =
     let o = or_parts (is_of t v) (list_any (is_of t) R) n in
     own_same t s o.1 ∙ sym (put_none (is_of t v) v.action (own t H) o.0)
 
--- an action that doesn't store to a cell leaves its number
+-- an action that doesn't store to a cell leaves its value
 pub not_stored : (c : ℕ) (a : Action) (y : ℤ) → is_store_to c a ≡ false → stored_or c a y ≡ y
 not_stored c (Store d x) y n = rw n
 not_stored c _ y n = refl
@@ -68,7 +68,7 @@ not_stored c _ y n = refl
 abbrev pub stores_to : ℕ → Event → Bool
 stores_to c v = is_store_to c v.action
 
--- a cell's last number
+-- a cell's last value
 pub last_same : (first : ℤ) (c : ℕ) {H K R : History} → Parts H K R → list_any (stores_to c) R ≡ false → last first c K ≡ last first c H
 last_same first c none n = refl
 last_same first c (stays {x = v} s) n = ap (stored_or c v.action) (last_same first c s n)

@@ -21,7 +21,7 @@ pub and_all : (a b : Bool) → b ≡ true → (a && b) ≡ a
 and_all true b h = h
 and_all false b h = refl
 
--- the bytes behind a place, as a slice of them is shown
+-- the bytes after an index, as a slice of them is shown
 slice_behind : (rest : List ℕ) (at : ℕ) → take (length rest - at) (drop at rest) ≡ drop at rest
 slice_behind rest at = ap (λ k. take k (drop at rest)) (sym (length-drop at rest)) ∙ take-length (drop at rest)
 
@@ -49,7 +49,7 @@ module _ (text rest : List ℕ) (at : ℕ) (r : Option ℕ) (l : IsLastPart rest
     pub front_same : (t : Bool) → spells_name rest ≡ t → spells_name (take (at - 1) rest) ≡ t
     front_same t e = sym front_spelled ∙ e
 
-    -- the number goes from the parts that are left to those that were read
+    -- the ordinal goes from the parts that are left to those that were read
     pub number_read : (numbers more : List ℕ) → more ≡ numbers ++ n ∷ [] → numbers ++ spelled_name rest ≡ spelled_name text → more ++ spelled_name (take (at - 1) rest) ≡ spelled_name text
     number_read numbers more e h =
         let one : spelled_name rest ≡ n ∷ spelled_name (take (at - 1) rest) = spelled_down rest at l some ∙ ap (λ m. m ∷ spelled_name (take (at - 1) rest)) (sym (some_is (is_ordinal (drop at rest)) _ n r read is).1) in
@@ -63,7 +63,7 @@ module _ (text rest : List ℕ) (at : ℕ) (r : Option ℕ) (l : IsLastPart rest
         let positive : 0 < n = subst (λ m. 0 < m) (sym is_some.1) (ordinal_above_zero (drop at rest) is_some.0) in
         subst AreFromOne (sym e) (from_one_snoc numbers n h positive)
 
-    -- with no room for one more, there are many
+    -- with no capacity for one more, there are many
     pub many : (numbers : List ℕ) (room : ℕ) → 8 ≤ room → (length numbers + 1 ≤ room → ⊥) → numbers ++ spelled_name rest ≡ spelled_name text → 3 < length (spelled_name text)
     many numbers room eight full h =
         let one = spelled_down rest at l some in

@@ -47,7 +47,7 @@ record_stays cells e H v g =
 
 -- ---- a record takes its step back
 
--- a store's record gives the cell its former number back
+-- a store's record gives the cell its former value back
 pub cell_taken_back : (cells : Cells) (H : History) (v : Event) (c : ℕ) → cell_back v.action (replaced_by cells H v) c (last (first_number cells c) c (v ∷ H)) ≡ last (first_number cells c) c H
 cell_taken_back cells H v c = at v.task v.action
   where

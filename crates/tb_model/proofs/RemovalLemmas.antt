@@ -41,7 +41,7 @@ module _ (H : History) (t : Name) (a : Action) (u : Event) where
 -- ---- one event that stays
 
 module _ (H K R : History) (s : Parts H K R) (t : Name) (a : Action) (n : list_any (needs H (event t a)) R ≡ false) where
-  -- the end that it comes behind stays
+  -- the end that it comes after stays
   follows_stay : (u : Name) → needs_end_of H t a u ≡ true → HasEnded H u → HasEnded K u
   follows_stay u w h =
       let f : (v : Event) → ends u v ≡ true → needs H (event t a) v ≡ true =
@@ -85,7 +85,7 @@ follows_stays cells H K R s v n m = record {
   timely = timely_stays cells H K R s v.task v.action n m.timely;
 }
 
--- ---- what needs where less stands in front, needs where all does
+-- ---- what needs where less is in front, needs where all does
 
 waits_for_up : {H K R : History} → Parts H K R → (t : Name) (a : Action) (u : Name) → own t K ≡ own t H → waits_for K t a u ≡ true → waits_for H t a u ≡ true
 waits_for_up {H} {K} s t Start u o h =
@@ -98,7 +98,7 @@ needs_end_up : {H K R : History} → Parts H K R → (t : Name) (a : Action) (u 
 needs_end_up {H} {K} s t a u o h =
     ⊎_elim (λ x. or_left (holds (own t H) u) _ (subst (λ acts. holds acts u ≡ true) o x)) (λ x. or_right (holds (own t H) u) _ (waits_for_up s t a u o x)) (or_cases (holds (own t K) u) (waits_for K t a u) h)
 
--- a direct need behind those that stay is one behind all
+-- a direct need after those that stay is one after all
 pub needs_up : {H K R : History} → Parts H K R → (w u : Event) → own w.task K ≡ own w.task H → needs K w u ≡ true → needs H w u ≡ true
 needs_up {H} {K} s w u o h =
     let a = is_of w.task u in
@@ -149,7 +149,7 @@ own_grows t v H = at (is_of t v)
     at true = omega arith
     at false = omega arith
 
--- a number that isn't reached is no step
+-- an ordinal that isn't reached is no step
 pub not_step : (e : StepId) (H : History) (v : Event) → length (own e.task (v ∷ H)) < e.k → is_step e H v ≡ false
 not_step e H v h = at (is_of e.task v) refl h
   where

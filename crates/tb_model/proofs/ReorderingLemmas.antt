@@ -27,13 +27,13 @@ neighbours cells later front e f l n = reordered cells l (swap_behind later e f 
 pub neighbours_for : (P : Program) (later front : History) (e f : Event) → LegalFor P (later ++ f ∷ e ∷ front) → needs (e ∷ front) f e ≡ false → IsReorderingFor P (later ++ f ∷ e ∷ front) (later ++ e ∷ f ∷ front)
 neighbours_for P later front e f l n = reordered_for P l (swap_behind later e f front n)
 
--- a step that nothing needs is undone, and taken again at the end
+-- a step that nothing needs is undone, and executed again at the end
 module _ (later front : History) (v : Event) (h : IsUnneeded (step_of front v) (later ++ v ∷ front)) where
   -- the undo leaves all else
   pub undone : without (step_of front v) (later ++ v ∷ front) ≡ later ++ front
   undone = (single v front later h).left
 
-  -- taken again, the history is another order of what it was
+  -- executed again, the history is another order of what it was
   pub again : (cells : Cells) → Legal cells (later ++ v ∷ front) → IsReordering cells (later ++ v ∷ front) (v ∷ (later ++ front))
   again cells l = reordered cells l (moved_run v front cells later l (single v front later h).free)
 

@@ -23,12 +23,12 @@ at_place cells H t a front l s = subst (Legal cells) s.split l
 follows_at : (cells : Cells) (H : History) (t : Name) (a : Action) (front : History) → Legal cells H → Stands H t a front → MayFollow cells front (record { task = t; action = a })
 follows_at cells H t a front l s = (legal_below cells s.later (record { task = t; action = a } ∷ front) (at_place cells H t a front l s)).1
 
--- two places of one list
+-- two indexes of one list
 record Within (H : History) (x : Event) (front : History) : Type 0 where
   mid : History
   split : H ≡ mid ++ x ∷ front
 
--- two places of one list are one, or one stands in front of the other
+-- two indexes of one list are one, or one is before the other
 places : (a b : History) (x y : Event) (f g : History) → a ++ x ∷ f ≡ b ++ y ∷ g → ((x ≡ y) × (f ≡ g)) ⊎ (Within f y g ⊎ Within g x f)
 places [] [] x y f g e = inl (cc, cc)
 places [] (z ∷ b) x y f g e = inr (inl (record { mid = b; split = cc }))
@@ -147,7 +147,7 @@ whole_spawned : (m t : Name) (H front : History) (a : Action) → Stands H t a f
 whole_spawned m t H front a s b =
     subst (λ K. IsSpawned K m) (sym s.split) (spawned_later m s.later (record { task = t; action = a } ∷ front) (grown m (record { task = t; action = a }) front b))
 
--- a place of the front is a place of the whole
+-- an index of the front is an index of the whole
 whole_stands : (u t : Name) (H front front' : History) (a b : Action) → Stands H t a front → Stands front u b front' → Stands H u b front'
 whole_stands u t H front front' a b s r = record {
   later = s.later ++ record { task = t; action = a } ∷ r.later;

@@ -20,7 +20,7 @@ moved_run v front cells (w ∷ b) l f =
     by_way (more w (moved_run v front cells b l.0 f.0))
     (swap v w (b ++ front) (sym (needs_alike (moved v front cells b l.0 f.0).1 w v) ∙ f.1))
 
--- neighbours change places behind a later part
+-- neighbours change places after a later part
 pub swap_behind : (later : History) (e f : Event) (front : History) → needs (e ∷ front) f e ≡ false → Run (later ++ f ∷ e ∷ front) (later ++ e ∷ f ∷ front)
 swap_behind [] e f front n = swap e f front n
 swap_behind (v ∷ later) e f front n = more v (swap_behind later e f front n)

@@ -122,7 +122,7 @@ member_child : (cells : Cells) (H : History) (t : Name) (k : ℕ) → Legal cell
 member_child cells H t k l h =
     child_spawned t H k _ (first_children t (groups (own t H)) (group_children cells H t l)) (first_spawned H (groups (own t H)) (group_spawned H t)) h
 
--- ---- behind a close no member is spawned any more
+-- ---- after a close no member is spawned any more
 
 -- who has ended stays so
 pub ended_later : (t : Name) (b front : History) → HasEnded front t → HasEnded (b ++ front) t

@@ -58,7 +58,7 @@ items_at cells (v ∷ H) n p l = at (is_of p v) refl (items_at cells H n p l.0)
 elder_at : (m n : ℕ) (p : Name) → is_elder (m ∷ p) (n ∷ p) ≡ nat_lt m n
 elder_at m n p = ap (λ b. nat_lt m n && b) (same_refl p) ∙ and_true (nat_lt m n)
 
--- who is before whom, apart from whom and covered, by the items that their parent named
+-- who is before whom, who excludes whom and who is covered, by the items that their parent named
 pub before_at : (cells : Cells) (H : History) (p : Name) (m n : ℕ) → Legal cells H → before H (m ∷ p) (n ∷ p) ≡ child_before (own p H) m n
 before_at cells H p m n l =
     ap₂ (λ b c. b && c) (elder_at m n p) (ap₂ (some_meet is_before) (items_at cells H n p l) (items_at cells H m p l))

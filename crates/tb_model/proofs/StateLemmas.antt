@@ -110,7 +110,7 @@ numbered cells (v ∷ H) n t l p m = at (is_of t v) refl m (numbered cells H n t
             let d : n ≢ suc (spawn_count (own t H)) = λ z. both_ways (n == suc (spawn_count (own t H))) q (eq-eqb n (suc (spawn_count (own t H))) z) in
             omega (arith, d)
 
--- both ways
+-- a child was spawned exactly where its ordinal is from 1 to the count of the task's spawns
 pub children_numbered : (cells : Cells) (H : History) (t : Name) (n : ℕ) → Legal cells H → IsSpawned H (n ∷ t) ↔ ((1 ≤ n) × (n ≤ spawn_count (own t H)))
 children_numbered cells H t n l =
     (λ s. (spawned_positive cells H n t l s, spawn_bound cells H n t l s), λ b. numbered cells H n t l b.0 b.1)
@@ -131,7 +131,7 @@ items_named t (Test b) h = absurd (false≢true h)
 items_named t End h = absurd (false≢true h)
 items_named t Fault h = absurd (false≢true h)
 
--- so its items are those that its spawn names
+-- a task's items are those that its spawn names
 pub items_of_spawn : (cells : Cells) (H : History) (t : Name) → Legal cells H → items_of t H ≡ items_in (spawn_of t H)
 items_of_spawn cells [] t l = refl
 items_of_spawn cells (v ∷ H) t l = at (is_spawn_of t v.action) refl (items_of_spawn cells H t l.0)

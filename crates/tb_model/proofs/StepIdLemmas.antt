@@ -1,4 +1,4 @@
--- How a text falls into the name of a task and the number of a step.
+-- How a text falls into the name of a task and the ordinal of a step.
 use Rattle.std.proofs.Common.{◌≡◌, ℕ, suc, ◌+◌, List, [], ◌∷◌, ◌++◌, Bool, true, false, cond, not, take, drop, arith, refl, sym, ap, ◌∙◌, decimal, eqb-true, Option, Some, None}
 use Rattle.std.specs.List.{position_or_len}
 use Rattle.std.specs.Str.Parse.{digits_value}
@@ -9,7 +9,7 @@ use Rattle.tb_model.proofs.ReadLemmas.{none_is, some_is, and_no, and_all}
 one_more : (n : ℕ) → 1 + n ≡ suc n
 one_more n = omega arith
 
--- where something stands behind a `#`, there is one
+-- where something is after a `#`, there is one
 cut_by : (t : Bool) (b : ℕ) (bytes rest : List ℕ) → is_hash b ≡ t → (is_ordinal rest ≡ true) → rest ≡ drop (suc (cond (not t) (1 + position_or_len is_hash bytes) 0)) (b ∷ bytes) →
     (is_ordinal (drop (suc (position_or_len is_hash bytes)) bytes) ≡ true → take (position_or_len is_hash bytes) bytes ++ 35 ∷ drop (suc (position_or_len is_hash bytes)) bytes ≡ bytes) →
     take (cond (not t) (1 + position_or_len is_hash bytes) 0) (b ∷ bytes) ++ 35 ∷ drop (suc (cond (not t) (1 + position_or_len is_hash bytes) 0)) (b ∷ bytes) ≡ b ∷ bytes

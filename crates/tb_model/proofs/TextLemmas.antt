@@ -7,7 +7,7 @@ use Rattle.std.specs.Str.{IsUtf8, IsCharBoundary}
 use Rattle.std.specs.String.Boundary.{IsSplitPoint}
 use Rattle.tb_model.specs.Texts.{Begins}
 
--- what stands behind characters is text where the whole is
+-- what is after characters is text where the whole is
 behind_characters : (cs : List ℕ) (rest : List ℕ) → IsUtf8 (encodes cs ++ rest) → IsUtf8 rest
 behind_characters [] rest h = h
 behind_characters (c ∷ cs) rest h = behind_characters cs rest (IsUtf8-past_char _ _ c h (append_assoc (encode c) (encodes cs) rest))

@@ -1,4 +1,4 @@
--- A name is within another just where it ends with its numbers.
+-- A name is within another just where it ends with its ordinals.
 use Rattle.std.proofs.Common.{◌≡◌, ℕ, zero, suc, ◌+◌, ◌-◌, ◌<◌, ◌≤◌, [], ◌∷◌, Bool, true, false, length, take, drop, arith, refl, sym, ap, ◌∙◌, ◌&&◌, ◌||◌, ◌==◌, nat_eq, length-drop}
 use Rattle.std.proofs.Math.Seq.{take-length}
 use Rattle.std.specs.Cmp.Lexicographic.{pointwise}

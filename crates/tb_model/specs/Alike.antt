@@ -7,7 +7,7 @@ use Rattle.tb_model.specs.Names.{Name}
 use Rattle.tb_model.specs.Facts.{History, own, last, items_of}
 use Rattle.tb_model.specs.State.{printed, spawn_of}
 
--- each task has the same actions, each cell the same number, and events and items by any test,
+-- each task has the same actions, each cell the same value, and events and items by any test,
 -- output and spawns are the same; the order may differ
 pub record Alike (G H : History) : Type 0 where
   pub acts : (t : Name) → own t G ≡ own t H

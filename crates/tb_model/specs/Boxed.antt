@@ -1,4 +1,4 @@
--- Where the elements of a list stand. No public clause cites this module.
+-- Where the elements of a list are. No public clause cites this module.
 use Rattle.std.specs.Prelude.{List, [], ◌∷◌}
 use Rattle.std.specs.Box.{box_value}
 use Rattle.std.specs.Arc.{arc_value}

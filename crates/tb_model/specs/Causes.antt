@@ -6,12 +6,12 @@ use Rattle.tb_model.specs.declared.step_id.StepId.{StepId}
 use Rattle.tb_model.specs.Facts.{History, prepend_if}
 use Rattle.tb_model.specs.Needs.{needs, step_of, is_removed}
 
--- the steps of K, the front part of H, that v needs behind H, the newest first
+-- the steps of K, the front part of H, that v needs after H, the newest first
 abbrev pub causes : History → Event → History → List StepId
 causes H v [] = []
 causes H v (u ∷ K) = prepend_if (is_removed (step_of K u) H v) (step_of K u) (causes H v K)
 
--- an event, and what stands in front of it
+-- an event, and what is before it
 pub record Placed : Type 0 where
   pub event : Event
   pub front : History

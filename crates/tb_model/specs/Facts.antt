@@ -28,18 +28,18 @@ abbrev pub is_print : Action → Bool
 is_print (Print x) = true
 is_print _ = false
 
--- it stores to cell c
+-- the action stores to cell c
 abbrev pub is_store_to : ℕ → Action → Bool
 is_store_to c (Store d x) = c == d
 is_store_to c _ = false
 
--- it loads from cell c or stores to it
+-- the action loads from cell c or stores to it
 abbrev pub touches : ℕ → Action → Bool
 touches c (Load r d x) = c == d
 touches c (Store d x) = c == d
 touches c _ = false
 
--- it generates task t
+-- the action generates task t
 abbrev pub is_spawn_of : Name → Action → Bool
 is_spawn_of t (Spawn s) = same_name s.child t
 is_spawn_of t _ = false
@@ -90,12 +90,12 @@ own t (v ∷ H) = prepend_if (is_of t v) v.action (own t H)
 
 -- ---- cells
 
--- the number of cell c behind the action, where it was y in front of it
+-- the value of cell c after the action, where it was y in front of it
 abbrev pub stored_or : ℕ → Action → ℤ → ℤ
 stored_or c (Store d x) y = if c == d then x else y
 stored_or c _ y = y
 
--- the number of the last store to cell c, else its first number
+-- the value of the last store to cell c, else its first value
 abbrev pub last : ℤ → ℕ → History → ℤ
 last first c [] = first
 last first c (v ∷ H) = stored_or c v.action (last first c H)

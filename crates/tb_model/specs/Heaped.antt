@@ -1,4 +1,4 @@
--- Where the elements of a list on the heap stand. No public clause cites this module.
+-- Where the elements of a list on the heap are. No public clause cites this module.
 use Rattle.std.specs.Prelude.{List, [], ◌∷◌, Option, Some, None, Box}
 use Rattle.std.specs.Box.{box_value}
 use Rattle.tb_model.specs.declared.heaped.Heaped.{Heaped}

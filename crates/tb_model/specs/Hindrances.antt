@@ -1,4 +1,4 @@
--- What keeps a task from its next step, and which step that is. All are functions of the history.
+-- What blocks a task's next step, and which step that is. All are functions of the history.
 use Rattle.std.specs.Prelude.{◌≡◌, IsTrue, List, [], ◌∷◌, Bool, ◌&&◌, not, ℤ, Option, Some, None, option_map, is_none, if◌then◌else◌}
 use Rattle.std.specs.List.{list_any}
 use Rattle.std.specs.Option.{option_or}
@@ -22,7 +22,7 @@ abbrev pub spawned_names : History → List Name
 spawned_names [] = [] ∷ []
 spawned_names (v ∷ H) = with_child v.action (spawned_names H)
 
--- the first name, unless it comes behind the second
+-- the first name, unless it comes after the second
 abbrev pub lesser_by : Ordering → Name → Name → Name
 lesser_by Greater t u = u
 lesser_by _ t u = t
@@ -37,10 +37,10 @@ abbrev pub least_where : (Name → Bool) → List Name → Option Name
 least_where p [] = None
 least_where p (t ∷ ts) = if p t then Some (lesser_name t (least_where p ts)) else least_where p ts
 
--- ---- what keeps a task from an action
+-- ---- what blocks a task's action
 
--- the undeferred child at which it stands, a task that is before it, one that is apart from it and under way, a child that
--- its `taskwait` waits for, or a member of the group that it closes
+-- the undeferred child for which it waits, a task that is before it, one that excludes it and is
+-- under way, a child that its `taskwait` waits for, or a member of the group that it closes
 pub data Hindrance : Type 0 where
   Undeferred : Name → Hindrance
   Waiting : Name → Hindrance
@@ -52,7 +52,7 @@ pub data Hindrance : Type 0 where
 abbrev pub is_waited_for : History → Name → Name → Bool
 is_waited_for H t u = before H u t && not (list_any (ends u) H)
 
--- u is apart from t, has started and hasn't ended
+-- u excludes t, has started and hasn't ended
 abbrev pub is_excluding : History → Name → Name → Bool
 is_excluding H t u = apart H u t && (list_any (starts u) H && not (list_any (ends u) H))
 
@@ -60,14 +60,15 @@ is_excluding H t u = apart H u t && (list_any (starts u) H && not (list_any (end
 abbrev pub least_as : (Name → Hindrance) → (Name → Bool) → History → Option Hindrance
 least_as kind p H = option_map kind (least_where p (spawned_names H))
 
--- what other tasks than the undeferred child keep t from
+-- what blocks t, but for the undeferred child
 abbrev pub untimely : History → Name → Action → Option Hindrance
 untimely H t Start = option_or (least_as Waiting (is_waited_for H t) H) (least_as Excluded (is_excluding H t) H)
 untimely H t (Wait items) = least_as Children (is_unended_covered H t items) H
 untimely H t Close = least_as Group (is_unended_member H t) H
 untimely H t _ = None
 
--- what keeps t, which was generated and hasn't ended, from this action: the undeferred child comes first
+-- what blocks this action of t, which was generated and hasn't ended: the undeferred child comes
+-- first
 abbrev pub in_the_way : History → Name → Action → Option Hindrance
 in_the_way H t a = option_or (least_as Undeferred (is_unended_undeferred H t) H) (untimely H t a)
 
@@ -76,11 +77,11 @@ in_the_way H t a = option_or (least_as Undeferred (is_unended_undeferred H t) H)
 abbrev pub IsLeast : (Name → Bool) → Option Name → Type 0
 IsLeast p o = IsLeastName (λ u. IsTrue (p u)) o
 
--- the task stands at no undeferred child that hasn't ended
+-- the task is at no undeferred child that hasn't ended
 abbrev pub IsFree : History → Name → Type 0
 IsFree H t = IsLeast (is_unended_undeferred H t) None
 
--- this is what keeps t from the action, and nothing that comes first does
+-- this is what blocks t's action, and nothing that comes first does
 abbrev pub Hinders : History → Name → Action → Hindrance → Type 0
 Hinders H t a (Undeferred u) = IsLeast (is_unended_undeferred H t) (Some u)
 Hinders H t a (Waiting u) = IsFree H t × (a ≡ Start) × IsLeast (is_waited_for H t) (Some u)
@@ -90,12 +91,12 @@ Hinders H t a (Group u) = IsFree H t × (a ≡ Close) × IsLeast (is_unended_mem
 
 -- ---- the next step of a task
 
--- the number that the action reads, where it is a load
+-- the value that the action reads, where it is a load
 abbrev pub number_read : Cells → History → Action → ℤ
 number_read cells H (Load r c x) = last (first_number cells c) c H
 number_read cells H _ = zero_ℤ
 
--- what t would do next; a load reads its cell's last number
+-- what t would do next; a load reads its cell's last value
 abbrev pub next_action : Program → History → Name → Action
 next_action P H t = planned P H t (number_read P.cells H (planned P H t zero_ℤ))
 
@@ -108,7 +109,7 @@ pub data Refusal : Type 0 where
   Ended : Refusal
   By : Hindrance → Refusal
 
--- the first reason that holds; the number that a load reads is none
+-- the first reason that holds; the value that a load reads is none
 abbrev pub refusal_of : Program → History → Name → Option Refusal
 refusal_of P H t =
     if not (is_spawned H t) then Some NoSuchTask

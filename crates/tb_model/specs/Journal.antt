@@ -14,7 +14,8 @@ hist (Opened ∷ J) = []
 hist (Stepped seat v ∷ J) = v ∷ hist J
 hist (Rolled seat e ∷ J) = without e (hist J)
 
--- it begins with its one Opened; each event is a next one, and each step that is rolled back stands
+-- a journal begins with its one Opened; each event is a next one, and each step that is rolled back
+-- is there
 abbrev pub Sound : Program → List Entry → Type 0
 Sound P [] = ⊥
 Sound P (Opened ∷ J) = J ≡ []

@@ -10,11 +10,11 @@ use Rattle.tb_model.specs.declared.event.Event.{Event}
 use Rattle.tb_model.specs.Names.{Name, child}
 use Rattle.tb_model.specs.Facts.{History, HasEnded, HasStarted, IsSpawned, is_end, own, last, before, apart, groups, is_member, covers, holds}
 
--- the cells with their first numbers
+-- the cells with their first values
 abbrev pub Cells : Type 0
 Cells = List ℤ
 
--- a cell without a first number of its own begins at 0
+-- a cell without a first value of its own begins at 0
 abbrev pub first_number : Cells → ℕ → ℤ
 first_number cells c = unwrap_or (slice_get cells c) (ℤ.pos 0)
 
@@ -34,8 +34,9 @@ abbrev pub IsPlace : Cells → Place → Type 0
 IsPlace cells (Cell c) = c < length cells
 IsPlace cells All = ⊤
 
--- t may do this behind its own actions: its start comes first and nothing follows its end, registers are r0 to r15, cells
--- are the program's, children are numbered from 1, at most 16 arguments are passed, and each close has its open
+-- t may do this after its own actions: its start comes first and nothing follows its end, registers
+-- are r0 to r15, cells are the program's, children are numbered from 1, at most 16 arguments are
+-- passed, and each close has its open
 abbrev pub Continues : Cells → Name → List Action → Action → Type 0
 Continues cells t acts Start = acts ≡ []
 Continues cells t acts (Let r x) = IsRunning acts × (r < 16)
@@ -51,14 +52,16 @@ Continues cells t acts (Test answer) = IsRunning acts
 Continues cells t acts End = IsRunning acts
 Continues cells t acts Fault = IsRunning acts
 
--- t may start: it was generated, all that are before it have ended, and nothing that is apart from it is under way
+-- t may start: it was generated, all that are before it have ended, and nothing that excludes it is
+-- under way
 pub record MayStart (H : History) (t : Name) : Type 0 where
   pub spawned : IsSpawned H t
   pub behind : (u : Name) → IsTrue (before H u t) → HasEnded H u
   pub alone : (u : Name) → IsTrue (apart H u t) → HasStarted H u → HasEnded H u
 
--- what other tasks and the cells allow: a load reads its cell's last number; a `taskwait` comes behind the ends of the
--- children that it covers, and the end of a `taskgroup` behind those of the group's members
+-- what other tasks and the cells allow: a load reads its cell's last value; a `taskwait` comes
+-- after the ends of the children that it covers, and the end of a `taskgroup` after those of the
+-- group's members
 abbrev pub IsTimely : Cells → History → Name → Action → Type 0
 IsTimely cells H t Start = MayStart H t
 IsTimely cells H t (Load r c x) = x ≡ last (first_number cells c) c H
@@ -66,7 +69,7 @@ IsTimely cells H t (Wait items) = (u : Name) → IsTrue (covers H t items u) →
 IsTimely cells H t Close = (m : Name) → IsTrue (is_member (own t H) m) → IsSpawned H m → HasEnded H m
 IsTimely cells H t _ = ⊤
 
--- the undeferred child at which t stands, if there is one, has ended
+-- the undeferred child for which t waits, if there is one, has ended
 abbrev pub IsResumed : History → Name → Type 0
 IsResumed H t = (u : Name) → IsTrue (holds (own t H) u) → HasEnded H u
 
@@ -76,7 +79,7 @@ pub record MayFollow (cells : Cells) (H : History) (v : Event) : Type 0 where
   pub resumed : IsResumed H v.task
   pub timely : IsTimely cells H v.task v.action
 
--- each event may follow those that stand in front of it
+-- each event may follow those that are before it
 abbrev pub Legal : Cells → History → Type 0
 Legal cells [] = ⊤
 Legal cells (v ∷ H) = Legal cells H × MayFollow cells H v

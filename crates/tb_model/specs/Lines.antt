@@ -1,4 +1,5 @@
--- Histories that keep with each event the line at which it leaves its task. No program is asked for one.
+-- Histories that retain with each event the line at which it leaves its task. No program is asked
+-- for one.
 use Rattle.std.specs.Prelude.{◌≡◌, ℕ, List, [], ◌∷◌, not, map, ⊤, if◌then◌else◌}
 use Rattle.tb_model.specs.declared.event.Event.{Event}
 use Rattle.tb_model.specs.declared.step_id.StepId.{StepId}

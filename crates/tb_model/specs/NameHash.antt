@@ -7,7 +7,7 @@ abbrev pub mixed : ℕ → List ℕ → ℕ
 mixed digest [] = digest
 mixed digest (n ∷ ns) = mixed (((digest * 2654435769) % 2 ^ 32 + n) % 2 ^ 32) ns
 
--- of a deep name the sixteen numbers nearest to the task, and the eight nearest to the root
+-- of a deep name the sixteen ordinals nearest to the task, and the eight nearest to the root
 abbrev pub digest_of : ℕ → Name → ℕ
 digest_of depth t =
     if nat_le (length t) 24 then mixed depth t

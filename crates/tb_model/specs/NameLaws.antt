@@ -1,4 +1,4 @@
--- That the tests and the order of names keep the laws of equality, of an order and of a hash.
+-- That the tests and the order of names retain the laws of equality, of an order and of a hash.
 use Rattle.std.specs.Prelude.{◌≡◌, ℕ, List, [], ◌∷◌, reverse, nat_eq, IsTrue, ◌&&◌, ◌==◌}
 use Rattle.std.proofs.Common.{refl, sym, ap, ◌∙◌, subst}
 use Rattle.std.specs.Cmp.{IsPartialEquivalence, IsEquivalence, IsPartialOrder, IsTotalOrder, partial_equiv_from_equiv, po, both_ways}
@@ -25,7 +25,7 @@ name_cmp_total = on_total reverse nat_list_cmp_total
 unreversed : (a b : Name) → reverse a ≡ reverse b → a ≡ b
 unreversed a b e = sym (reverse-reverse a) ∙ ap reverse e ∙ reverse-reverse b
 
--- names that the order doesn't tell apart are one
+-- names that the order doesn't distinguish are one
 pub name_cmp_ties : (a b : Name) → same_name a b ≡ eq_by_cmp name_cmp a b
 name_cmp_ties a b =
     let forth = bytes_eq-Decides a b in

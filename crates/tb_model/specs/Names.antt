@@ -42,6 +42,6 @@ abbrev pub is_within : Name → Name → Bool
 is_within c [] = same_name c []
 is_within c (n ∷ m) = same_name c (n ∷ m) || is_within c m
 
--- the order of names: number by number from the root, a parent before its children
+-- the order of names: ordinal by ordinal from the root, a parent before its children
 abbrev pub name_cmp : Name → Name → Ordering
 name_cmp a b = slice_cmp nat_cmp (reverse a) (reverse b)

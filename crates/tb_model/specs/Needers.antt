@@ -6,7 +6,7 @@ use Rattle.tb_model.specs.declared.step_id.StepId.{StepId}
 use Rattle.tb_model.specs.Facts.{History}
 use Rattle.tb_model.specs.Needs.{needs, is_step, step_of, removed}
 
--- v, which stands behind H, isn't e and needs it
+-- v, which is after H, isn't e and needs it
 abbrev pub is_needer : StepId → History → Event → Bool
 is_needer e H v = not (is_step e H v) && list_any (needs H v) (removed e H)
 

@@ -37,7 +37,8 @@ pub record Body : Type 0 where
   pub name : List ℕ
   pub line : ℕ
 
--- the cells with their first numbers, the bodies, the statement at each line (place 0 is no line), and the line of the root's body
+-- the cells with their first values, the bodies, the statement at each line (index 0 is no line),
+-- and the line of the root's body
 pub record Program : Type 0 where
   pub cells : Cells
   pub bodies : List Body
@@ -49,11 +50,11 @@ pub record Config : Type 0 where
   pub line : ℕ
   pub regs : List ℤ
 
--- the number 0
+-- the value 0
 abbrev pub zero_ℤ : ℤ
 zero_ℤ = ℤ.pos 0
 
--- the number that an operand stands for
+-- the value that an operand means
 abbrev pub value : List ℤ → Operand → ℤ
 value regs (Number x) = x
 value regs (Register r) = slice_index_or regs r zero_ℤ
@@ -80,7 +81,7 @@ abbrev pub is_deferred : List ℤ → Option Condition → Bool
 is_deferred regs None = true
 is_deferred regs (Some c) = is_met regs c
 
--- a cell's number, where the address is one
+-- a cell's value, where the address is one
 abbrev pub cell_at : Cells → ℤ → Option ℕ
 cell_at cells (ℤ.pos n) = if nat_lt n (length cells) then Some n else None
 cell_at cells (ℤ.negsuc n) = None
@@ -116,7 +117,7 @@ abbrev pub items_or_fault : Option (List Item) → (List Item → Action) → Ac
 items_or_fault None f = Fault
 items_or_fault (Some items) f = f items
 
--- the action of a statement of t, where t's next child has the number n and a load reads x
+-- the action of a statement of t, where t's next child has the ordinal n and a load reads x
 abbrev pub action_of : Cells → Name → ℕ → List ℤ → ℤ → Statement → Action
 action_of cells t n regs x DoStart = Start
 action_of cells t n regs x (DoLet r a) = Let r (value regs a)
@@ -131,7 +132,7 @@ action_of cells t n regs x DoClose = Close
 action_of cells t n regs x (DoTest c) = Test (is_met regs c)
 action_of cells t n regs x DoEnd = End
 
--- the situation behind an action that was taken at this instruction
+-- the situation after an action that was executed at this instruction
 abbrev pub moved : Instr → Config → Action → Config
 moved i c (Let r x) = record { line = i.next; regs = slice_set c.regs r x }
 moved i c (Load r d x) = record { line = i.next; regs = slice_set c.regs r x }
@@ -141,7 +142,7 @@ moved i c End = c
 moved i c Fault = c
 moved i c _ = record { line = i.next; regs = c.regs }
 
--- what stands at a line that the program doesn't have
+-- what is at a line that the program doesn't have
 abbrev pub no_instr : Instr
 no_instr = record { statement = DoEnd; next = 0; otherwise = 0 }
 
@@ -149,7 +150,7 @@ no_instr = record { statement = DoEnd; next = 0; otherwise = 0 }
 abbrev pub instr_at : Program → ℕ → Instr
 instr_at P line = slice_index_or P.lines line no_instr
 
--- where a task with this body and these arguments stands behind its actions
+-- where a task with this body and these arguments is after its actions
 abbrev pub config : Program → ℕ → List ℤ → List Action → Config
 config P line args [] = record { line = line; regs = take 16 (args ++ replicate 16 zero_ℤ) }
 config P line args (a ∷ acts) =
@@ -160,22 +161,22 @@ config P line args (a ∷ acts) =
 abbrev pub called : Program → Name → History → Called
 called P t H = called_by P.root_line (spawn_of t H)
 
--- where t stands
+-- where t is
 abbrev pub situation : Program → Name → History → Config
 situation P t H = config P (called P t H).line (called P t H).args (own t H)
 
--- the action that t would take behind H, where a load reads x
+-- the action that t would take after H, where a load reads x
 abbrev pub planned : Program → History → Name → ℤ → Action
 planned P H t x =
     let c = situation P t H in
     action_of P.cells t (suc (spawn_count (own t H))) c.regs x (instr_at P c.line).statement
 
--- the number that a load reads
+-- the value that a load reads
 abbrev pub loaded : Action → ℤ
 loaded (Load r c x) = x
 loaded _ = zero_ℤ
 
--- the event is what its task's body gives, whatever number a load reads
+-- the event is what its task's body gives, whatever value a load reads
 abbrev pub Follows : Program → History → Event → Type 0
 Follows P H v = v.action ≡ planned P H v.task (loaded v.action)
 

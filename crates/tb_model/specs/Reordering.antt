@@ -20,6 +20,6 @@ pub record IsReorderingFor (P : Program) (G H : History) : Type 0 where
   pub alike : Alike G H
   pub equivalent : Equivalent G H
 
--- the step stands in H, and nothing there needs it
+-- the step is in H, and nothing there needs it
 abbrev pub IsUnneeded : StepId → History → Type 0
 IsUnneeded e H = length (removed e H) ≡ 1

@@ -11,10 +11,10 @@ use Rattle.tb_model.specs.Records.{register_of, replaced_by}
 use Rattle.tb_model.specs.Program.{Program, situation, IsNext}
 
 pub record SameState (G H : History) : Type 0 where
-  -- each cell's number, and the output
+  -- each cell's value, and the output
   pub cells : (first : ℤ) (c : ℕ) → last first c G ≡ last first c H
   pub output : printed G ≡ printed H
-  -- the tasks, each with its body and arguments, items, state and number of events
+  -- the tasks, each with its body and arguments, items, state and count of events
   pub tasks : (t : Name) → is_spawned G t ≡ is_spawned H t
   pub called : (root_line : ℕ) (t : Name) → called_by root_line (spawn_of t G) ≡ called_by root_line (spawn_of t H)
   pub items : (t : Name) → items_of t G ≡ items_of t H
@@ -23,7 +23,7 @@ pub record SameState (G H : History) : Type 0 where
   -- its registers, and for a program its line too
   pub registers : (t : Name) (r : ℕ) → register_of t r G ≡ register_of t r H
   pub situation : (P : Program) (t : Name) → situation P t G ≡ situation P t H
-  -- its siblings that are before it, and apart from it
+  -- its siblings that are before it, and those that exclude it
   pub before : (u t : Name) → before G u t ≡ before H u t
   pub apart : (u t : Name) → apart G u t ≡ apart H u t
   -- its open groups, and who isn't done

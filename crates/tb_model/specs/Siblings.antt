@@ -27,14 +27,14 @@ child_apart acts m n =
 abbrev pub child_covered : List Action → List Item → ℕ → Bool
 child_covered acts items n = has_no_items items || some_meet is_before items (nth_items n acts)
 
--- ---- the members of an open group, told by one number
+-- ---- the members of an open group, known by one ordinal
 
 -- how many children the task had generated at its kth action
 abbrev pub children_at : ℕ → List Action → ℕ
 children_at k [] = 0
 children_at k (a ∷ acts) = if nat_le k (length acts) then children_at k acts else spawn_count (a ∷ acts)
 
--- m is a child of t with a number above n, or a descendant of one
+-- m is a child of t with an ordinal above n, or a descendant of one
 abbrev pub is_later : Name → ℕ → Name → Bool
 is_later t n [] = false
 is_later t n (j ∷ m) = (nat_lt n j && same_name t m) || is_later t n m

@@ -1,4 +1,4 @@
--- How names of tasks and numbers of steps are spelled.
+-- How names of tasks and ordinals of steps are spelled.
 use Rattle.std.specs.Prelude.{◌≡◌, ◌≤◌, ◌<◌, ◌-◌, ℕ, suc, length, take, slice_index, List, [], ◌∷◌, ◌++◌, Bool, false, ◌&&◌, ◌==◌, not, nat_le, nat_lt, if◌then◌else◌, map, drop, reverse, decimal, Option, Some, None}
 use Rattle.std.specs.List.{list_all, list_any, position_or_len}
 use Rattle.std.specs.Char.{is_ascii_digit}
@@ -10,12 +10,12 @@ use Rattle.tb_model.specs.Names.{Name}
 
 -- ---- how they are written
 
--- the root is `0`; a child is its parent, a dot and its number
+-- the root is `0`; a child is its parent, a dot and its ordinal
 abbrev pub name_text : Name → List ℕ
 name_text [] = 48 ∷ []
 name_text (n ∷ t) = name_text t ++ 46 ∷ decimal n
 
--- the levels of these numbers, the last one first
+-- the levels of these ordinals, the last one first
 abbrev pub levels_text : List ℕ → List ℕ
 levels_text [] = []
 levels_text (n ∷ t) = levels_text t ++ 46 ∷ decimal n
@@ -24,7 +24,7 @@ levels_text (n ∷ t) = levels_text t ++ 46 ∷ decimal n
 abbrev pub is_digit : ℕ → Bool
 is_digit n = nat_lt n 10
 
--- the task, `#` and the number of the step
+-- the task, `#` and the ordinal of the step
 abbrev pub step_id_text : StepId → List ℕ
 step_id_text e = name_text e.task ++ 35 ∷ decimal e.k
 
@@ -35,7 +35,7 @@ abbrev pub is_ordinal : List ℕ → Bool
 is_ordinal [] = false
 is_ordinal (d ∷ ds) = list_all is_ascii_digit (d ∷ ds) && (not (d == 48) && nat_le (digits_value 10 (d ∷ ds)) 1000000)
 
--- the number that they spell
+-- the value that they spell
 abbrev pub ordinal_of : List ℕ → Option ℕ
 ordinal_of digits = if is_ordinal digits then Some (digits_value 10 digits) else None
 
@@ -47,7 +47,7 @@ onto_first b (part ∷ parts) = (b ∷ part) ∷ parts
 abbrev pub is_dot : ℕ → Bool
 is_dot b = b == 46
 
--- behind the place there is no dot, and one in front of it unless the text begins there
+-- after the index there is no dot, and one in front of it unless the text begins there
 pub record IsLastPart (text : List ℕ) (at : ℕ) : Type 0 where
   pub within : at ≤ length text
   pub part : list_any is_dot (drop at text) ≡ false
@@ -64,7 +64,7 @@ is_zero [] = false
 is_zero (d ∷ []) = d == 48
 is_zero (d ∷ e ∷ ds) = false
 
--- the first part is `0`, each other one a number from 1 to 1,000,000
+-- the first part is `0`, each other one an ordinal from 1 to 1,000,000
 abbrev pub are_levels : List (List ℕ) → Bool
 are_levels [] = false
 are_levels (root ∷ numbers) = is_zero root && list_all is_ordinal numbers
@@ -72,21 +72,21 @@ are_levels (root ∷ numbers) = is_zero root && list_all is_ordinal numbers
 abbrev pub spells_name : List ℕ → Bool
 spells_name text = are_levels (parts text)
 
--- the name that a text spells: the numbers behind the first, the last one first
+-- the name that a text spells: the ordinals after the first, the last one first
 abbrev pub spelled_name : List ℕ → Name
 spelled_name text = reverse (map (λ part. digits_value 10 part) (drop 1 (parts text)))
 
 abbrev pub is_hash : ℕ → Bool
 is_hash b = b == 35
 
--- the bytes in front of the first `#`, all of them where there is none, and those behind it
+-- the bytes in front of the first `#`, all of them where there is none, and those after it
 abbrev pub before_hash : List ℕ → List ℕ
 before_hash text = take (position_or_len is_hash text) text
 
 abbrev pub behind_hash : List ℕ → List ℕ
 behind_hash text = drop (suc (position_or_len is_hash text)) text
 
--- the name of a task in front of the first `#`, a number from 1 to 1,000,000 behind it
+-- the name of a task in front of the first `#`, an ordinal from 1 to 1,000,000 after it
 abbrev pub spells_step_id : List ℕ → Bool
 spells_step_id text = spells_name (before_hash text) && is_ordinal (behind_hash text)
 

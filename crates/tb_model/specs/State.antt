@@ -1,4 +1,5 @@
--- The state that a history leaves, part by part, beside what Facts says. Each part is a function of the history.
+-- The state that a history leaves, part by part, besides what Facts says. Each part is a function
+-- of the history.
 use Rattle.std.specs.Prelude.{ℕ, suc, List, [], ◌∷◌, Bool, true, false, ◌&&◌, not, nat_le, ℤ, length, map, drop, Option, Some, None, if◌then◌else◌}
 use Rattle.std.specs.List.{list_any}
 use Rattle.tb_model.specs.declared.action.Action.{Action}
@@ -37,12 +38,12 @@ is_over Faulted = true
 
 -- ---- what was printed
 
--- the numbers printed so far, with what the action prints
+-- the values printed so far, with what the action prints
 abbrev pub with_print : Action → List ℤ → List ℤ
 with_print (Print x) xs = x ∷ xs
 with_print _ xs = xs
 
--- the numbers that were printed, the newest first
+-- the values that were printed, the newest first
 abbrev pub printed : History → List ℤ
 printed [] = []
 printed (v ∷ H) = with_print v.action (printed H)
@@ -75,7 +76,7 @@ items_in _ = []
 
 -- ---- open groups
 
--- the open groups, the innermost first, each by the number of the step that opened it
+-- the open groups, the innermost first, each by the ordinal of the step that opened it
 abbrev pub open_groups : List Action → List ℕ
 open_groups [] = []
 open_groups (Open ∷ acts) = suc (length acts) ∷ open_groups acts
@@ -91,7 +92,7 @@ abbrev pub with_child : Action → List Name → List Name
 with_child (Spawn s) us = s.child ∷ us
 with_child _ us = us
 
--- the children that the actions behind the kth generated, the newest first
+-- the children that the actions after the kth generated, the newest first
 abbrev pub children_since : ℕ → List Action → List Name
 children_since k [] = []
 children_since k (a ∷ acts) = if nat_le k (length acts) then with_child a (children_since k acts) else []
@@ -122,6 +123,6 @@ is_unended_member H t m = is_member (own t H) m && is_unended H m
 abbrev pub is_unended_member_of : History → Name → ℕ → Name → Bool
 is_unended_member_of H t k m = is_member_of k (own t H) m && is_unended H m
 
--- u is the undeferred child at which t stands, and hasn't ended
+-- u is the undeferred child for which t waits, and hasn't ended
 abbrev pub is_unended_undeferred : History → Name → Name → Bool
 is_unended_undeferred H t u = holds (own t H) u && not (list_any (ends u) H)

@@ -1,4 +1,4 @@
--- Where the numbers of a name stand. No public clause cites this module.
+-- Where the ordinals of a name are. No public clause cites this module.
 use Rattle.std.specs.Prelude.{◌<◌, ◌≤◌, ◌++◌, ℕ, List, [], length, ⊤}
 use Rattle.std.specs.Arc.{arc_value}
 use Rattle.tb_model.specs.declared.stored.Stored.{Stored}
@@ -21,7 +21,7 @@ abbrev pub lent_numbers : Lent → List ℕ
 lent_numbers (Slice numbers) = numbers.now
 lent_numbers (Spread numbers) = numbers
 
--- what stands on the heap is more than would stand in the value, and blocks are there for more than one
+-- what is on the heap is more than would be in the value, and blocks are there for more than one
 abbrev pub IsShortest : Stored → Type 0
 IsShortest Zero = ⊤
 IsShortest (One a) = ⊤

@@ -1,4 +1,4 @@
--- Histories behind which every unended task wants to go on, and none may.
+-- Histories after which every unended task wants to go on, and none may.
 use Rattle.std.specs.Prelude.{◌≡◌, ℕ, ℤ, IsFalse}
 use Rattle.std.specs.List.{list_any}
 use Rattle.tb_model.specs.declared.action.Action.{Action}

@@ -1,4 +1,4 @@
--- What is kept of a text to which something is appended.
+-- What is stored of a text to which something is appended.
 use Rattle.std.specs.Prelude.{◌≡◌, ℕ, List, length, take}
 
 -- the new text begins with the old one

@@ -9,18 +9,18 @@ use crate::spawned::Spawned;
 use crate::wait_items::WaitItems;
 use std::mem::size_of;
 
-/// What one step of a task did, with the numbers that it read, wrote, printed or passed.
+/// What one step of a task did, with the values that it read, wrote, printed or passed.
 #[derive(Clone, Debug, Drop)]
 pub enum Action {
     /// The task began.
     Start,
-    /// A register was given a number.
+    /// A register was given a value.
     Let { reg: u8, value: i64 },
-    /// A register was given the number of a cell.
+    /// A register was given the value of a cell.
     Load { reg: u8, cell: u32, value: i64 },
-    /// A cell was given a number.
+    /// A cell was given a value.
     Store { cell: u32, value: i64 },
-    /// A number was printed.
+    /// A value was printed.
     Print { value: i64 },
     /// A child was generated.
     Spawn(Spawned),

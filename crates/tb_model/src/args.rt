@@ -46,7 +46,7 @@ impl Args {
         self.list.as_slice()
     }
 
-    /// Whether both have the same numbers.
+    /// Whether both have the same values.
     pub fn is_same(&self, other: &Args) -> bool
         ensures { IsTrue result ↔ (self.now ≡ other.now) }
     {

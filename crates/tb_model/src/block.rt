@@ -1,4 +1,4 @@
-//! A run of the numbers of deep names.
+//! A run of the ordinals of deep names.
 
 ghost use Rattle.std.specs.Prelude.{◌≡◌, IfOk, IfSome, length};
 ghost use Rattle.tb_model.specs.Names.{same_name};
@@ -9,10 +9,10 @@ use std::alloc::{AllocError, Global};
 use std::marker::Model;
 use std::sync::Arc;
 
-/// How many numbers a block has.
+/// How many ordinals a block has.
 pub(crate) const BLOCK: usize = 128;
 
-/// 128 numbers of a deep name. They stand on the heap once, for all names that have them.
+/// 128 ordinals of a deep name. They are on the heap once, for all names that have them.
 #[derive(Drop)]
 pub(crate) struct Block {
     levels: Arc<Levels>,
@@ -28,7 +28,7 @@ impl Model for Block {
 }
 
 impl Block {
-    /// A block of these numbers.
+    /// A block of these ordinals.
     pub fn from_slice(alloc: Global, numbers: &[u32]) -> Result<Block, AllocError>
         requires { length numbers.now ≡ 128 }
         ensures { IfOk result (λ b. b ≡ numbers.now) }
@@ -40,7 +40,7 @@ impl Block {
         })
     }
 
-    /// The numbers, in order.
+    /// The ordinals, in order.
     pub fn as_slice(&self) -> &[u32]
         ensures is { result.now ≡ self.now }
         ensures full { length self.now ≡ 128 }
@@ -48,14 +48,14 @@ impl Block {
         self.levels.as_slice()
     }
 
-    /// Whether the numbers are the same.
+    /// Whether the ordinals are the same.
     pub fn is_same(&self, other: &Block) -> bool
         ensures { result ≡ same_name self.now other.now }
     {
         self.levels.is_same(&other.levels)
     }
 
-    /// The levels of the numbers as text, which is kept where each has one digit.
+    /// The levels of the numbers as text, which is stored where each has one digit.
     pub fn text(&self) -> Option<&[u8]>
         ensures { IfSome result (λ t. t.now ≡ levels_text self.now) }
     {

@@ -10,7 +10,7 @@ use std::marker::Model;
 use std::slice;
 use std::sync::Arc;
 
-/// A list that takes less room than a vector. Up to one element takes no memory.
+/// A list that takes less capacity than a vector. Up to one element takes no memory.
 #[derive(Drop)]
 pub(crate) struct BoxedList<T> {
     alloc: Global,

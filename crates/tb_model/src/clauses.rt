@@ -32,7 +32,7 @@ impl Clauses {
         }
     }
 
-    /// Adds a clause behind the others.
+    /// Adds a clause after the others.
     pub fn push(&mut self, clause: Clause) -> Result<(), AllocError>
         ensures ok { OnOk result (self.new ≡ self.old ++ clause ∷ []) }
         ensures err { OnErr result (self.new ≡ self.old) }

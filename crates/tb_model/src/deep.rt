@@ -1,13 +1,13 @@
-//! The numbers of a deep name.
+//! The ordinals of a deep name.
 
 use crate::block::Block;
 use smallvec::SmallVec;
 
-/// More numbers than a block has.
+/// More ordinals than a block has.
 #[derive(Drop)]
 pub(crate) struct Deep {
-    /// The numbers nearest to the task, 1 to 128.
+    /// The ordinals nearest to the task, 1 to 128.
     pub near: SmallVec<u32, 8>,
-    /// The numbers further from the task, the block at the root first.
+    /// The ordinals further from the task, the block at the root first.
     pub far: Vec<Block>,
 }

@@ -14,7 +14,7 @@ pub struct Event {
 }
 
 impl Event {
-    /// Whether the task took this step.
+    /// Whether the task executed this step.
     pub fn is_of(&self, t: &TaskName) -> bool
         ensures { result ≡ Facts.is_of t.now self.now }
     {

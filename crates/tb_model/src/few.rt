@@ -1,4 +1,4 @@
-//! Small numbers that stand in a name itself.
+//! Small ordinals that are in a name itself.
 
 ghost use Rattle.std.specs.Prelude.{◌≡◌, ◌<◌, ◌≤◌, ◌∷◌, IfSome, IfNone, drop, length};
 ghost use Rattle.tb_model.specs.Names.{name_cmp, same_name};
@@ -8,14 +8,14 @@ use crate::spread::Spread;
 use std::cmp::Ordering;
 use std::marker::Model;
 
-/// The most numbers that stand in a name itself where each takes a byte.
+/// The most ordinals that are in a name itself where each takes a byte.
 pub(crate) const FEW: usize = 14;
 
-/// Four to fourteen numbers below 256, a byte each.
+/// Four to fourteen ordinals below 256, a byte each.
 #[derive(Drop)]
 pub(crate) struct Few {
     count: u8,
-    /// The numbers, then zeros, so that all are compared at once.
+    /// The ordinals, then zeros, so that all are compared at once.
     bytes: [u8; FEW],
 }
 
@@ -31,7 +31,7 @@ impl Model for Few {
 }
 
 impl Few {
-    /// A number, and those after it, if they are few and small.
+    /// An ordinal, and those after it, if they are few and small.
     pub fn with_first(first: u32, rest: &[u32]) -> Option<Few>
         ensures { IfSome result (λ f. f ≡ first ∷ rest.now) }
     {
@@ -52,7 +52,7 @@ impl Few {
         })
     }
 
-    /// A copy of the numbers.
+    /// A copy of the ordinals.
     #[inline(always)]
     pub fn copy(&self) -> Few
         ensures { result ≡ self.now }
@@ -63,7 +63,7 @@ impl Few {
         }
     }
 
-    /// Whether the numbers are the same, without a branch after each.
+    /// Whether the ordinals are the same, without a branch after each.
     #[inline(always)]
     pub fn is_same(&self, other: &Few) -> bool
         ensures { result ≡ same_name self.now other.now }
@@ -71,7 +71,7 @@ impl Few {
         self.count == other.count && are_all_same(&self.bytes, &other.bytes)
     }
 
-    /// The numbers.
+    /// The ordinals.
     #[inline(always)]
     pub fn as_bytes(&self) -> &[u8]
         ensures is { result.now ≡ self.now }
@@ -81,7 +81,7 @@ impl Few {
         &self.bytes[..usize::from(self.count)]
     }
 
-    /// A number, and these after it, if they stay few and small.
+    /// An ordinal, and these after it, if they stay few and small.
     #[inline(always)]
     pub fn with(&self, first: u32) -> Option<Few>
         ensures { IfSome result (λ f. f ≡ first ∷ self.now) }
@@ -98,7 +98,7 @@ impl Few {
         })
     }
 
-    /// The numbers after the first, if there are more than three.
+    /// The ordinals after the first, if there are more than three.
     #[inline(always)]
     pub fn rest(&self) -> Option<Few>
         ensures rest { IfSome result (λ f. f ≡ drop 1 self.now) }
@@ -115,7 +115,7 @@ impl Few {
         })
     }
 
-    /// How these numbers stand to others, the last of each compared first.
+    /// How these ordinals relate to others, the last of each compared first.
     pub fn compared(&self, other: &Few) -> Ordering
         ensures { result ≡ name_cmp self.now other.now }
     {
@@ -133,7 +133,7 @@ impl Few {
         0.cmp(&others.len())
     }
 
-    /// The numbers, four bytes each.
+    /// The ordinals, four bytes each.
     #[inline(always)]
     pub fn spread(&self) -> Spread
         ensures { result ≡ self.now }

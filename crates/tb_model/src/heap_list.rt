@@ -9,7 +9,7 @@ use std::alloc::{AllocError, Global};
 use std::marker::Model;
 use std::slice;
 
-/// A list that takes less room than a vector where it is empty. Its elements stand on the heap.
+/// A list that takes less capacity than a vector where it is empty. Its elements are on the heap.
 #[derive(Drop, Debug)]
 pub(crate) struct HeapList<T> {
     alloc: Global,

@@ -1,6 +1,6 @@
-//! Where the elements of a list on the heap stand.
+//! Where the elements of a list on the heap are.
 
-/// One element stands in a block of its own, which is as large as it: most lists have no more.
+/// One element is in a block of its own, which is as large as it: most lists have no more.
 #[derive(Drop, Debug)]
 pub(crate) enum Heaped<T> {
     Zero,

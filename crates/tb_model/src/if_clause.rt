@@ -6,8 +6,8 @@ use crate::condition::Condition;
 use std::alloc::{AllocError, Global};
 use std::marker::Model;
 
-/// The `if` clause of a `task` line, by which a task is deferred or not (OpenMP 5.2, sections 3.4 and
-/// 12.5). Most lines have none, so the test stands on the heap, where there is one.
+/// The `if` clause of a `task` line, by which a task is deferred or not (OpenMP 5.2, sections 3.4
+/// and 12.5). Most lines have none, so the test is on the heap, where there is one.
 #[derive(Drop, Debug)]
 pub struct IfClause {
     condition: Option<Box<Condition>>,

@@ -1,15 +1,15 @@
-//! What the numbers of two names have in common.
+//! What the ordinals of two names have in common.
 
 ghost use Rattle.std.specs.Prelude.{◌≡◌, length};
 ghost use Rattle.tb_model.specs.Names.{same_name, name_cmp};
 
-// How many numbers are compared at once.
+// How many ordinals are compared at once.
 const AT_ONCE: usize = 16;
 
 // How many are compared at once of those that are left, fewer than `AT_ONCE`.
 const FEW: usize = 4;
 
-/// Whether the numbers are the same. Sixteen are compared at once, then four.
+/// Whether the ordinals are the same. Sixteen are compared at once, then four.
 #[inline]
 #[tactic(auto, using(crate::proofs::WithinLemmas::different))]
 pub(crate) fn are_same(a: &[u32], b: &[u32]) -> bool
@@ -44,7 +44,7 @@ pub(crate) fn are_same(a: &[u32], b: &[u32]) -> bool
     true
 }
 
-/// Whether two lists of so many numbers are the same, without a branch after each number.
+/// Whether two lists of so many ordinals are the same, without a branch after each ordinal.
 #[inline(always)]
 fn are_so_many_same(a: &[u32], b: &[u32], count: usize) -> bool
     requires { (length a.now ≡ count) × (length b.now ≡ count) }
@@ -57,7 +57,7 @@ fn are_so_many_same(a: &[u32], b: &[u32], count: usize) -> bool
     same
 }
 
-/// Whether two lists of numbers below 256 are the same, without a branch after each number.
+/// Whether two lists of ordinals below 256 are the same, without a branch after each ordinal.
 #[inline(always)]
 pub(crate) fn are_bytes_same<const N: usize>(a: &[u8; N], b: &[u8; N]) -> bool
     ensures { result ≡ same_name a.now b.now }
@@ -69,7 +69,7 @@ pub(crate) fn are_bytes_same<const N: usize>(a: &[u8; N], b: &[u8; N]) -> bool
     same
 }
 
-/// The numbers without most of the last ones that both have, which don't decide the order: deep
+/// The ordinals without most of the last ones that both have, which don't decide the order: deep
 /// names of one program mostly begin alike at the root.
 pub(crate) fn without_common<'a>(a: &'a [u32], b: &'a [u32]) -> (&'a [u32], &'a [u32])
     ensures { name_cmp result.0.now result.1.now ≡ name_cmp a.now b.now }
@@ -88,7 +88,7 @@ pub(crate) fn without_common<'a>(a: &'a [u32], b: &'a [u32]) -> (&'a [u32], &'a 
     (&a[..m], &b[..n])
 }
 
-/// Numbers below 256 without most of the last ones that both have, which don't decide the order:
+/// Ordinals below 256 without most of the last ones that both have, which don't decide the order:
 /// four are compared at once.
 #[inline(always)]
 pub(crate) fn without_common_bytes<'a>(a: &'a [u8], b: &'a [u8]) -> (&'a [u8], &'a [u8])

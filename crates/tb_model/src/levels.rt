@@ -1,4 +1,4 @@
-//! The numbers of a block.
+//! The ordinals of a block.
 
 ghost use Rattle.std.specs.Prelude.{◌≡◌, IfSome, length};
 ghost use Rattle.tb_model.specs.Names.{same_name};
@@ -10,14 +10,14 @@ use crate::level_text::{TEXT, spelled};
 use arrayvec::ArrayVec;
 use std::marker::Model;
 
-/// 128 numbers of a deep name, as they are asked for: as numbers, and where they are small as bytes, which are
-/// compared sixteen at a time, and as text.
+/// 128 ordinals of a deep name, as they are asked for: as ordinals, and where they are small as
+/// bytes, which are compared sixteen at a time, and as text.
 #[derive(Drop)]
 pub(crate) struct Levels {
     numbers: [u32; BLOCK],
-    /// The numbers as bytes, where each is below 256.
+    /// The ordinals as bytes, where each is below 256.
     bytes: Option<[u8; BLOCK]>,
-    /// How the numbers are written, where each has one digit; else nothing.
+    /// How the ordinals are written, where each has one digit; else nothing.
     text: ArrayVec<u8, TEXT>,
 }
 
@@ -33,7 +33,7 @@ impl Model for Levels {
 }
 
 impl Levels {
-    /// The levels of these numbers, in each form that they have.
+    /// The levels of these ordinals, in each form that they have.
     pub fn new(numbers: [u32; BLOCK]) -> Levels
         ensures { result ≡ numbers }
     {
@@ -44,7 +44,7 @@ impl Levels {
         }
     }
 
-    /// The numbers, in order.
+    /// The ordinals, in order.
     pub fn as_slice(&self) -> &[u32]
         ensures is { result.now ≡ self.now }
         ensures full { length self.now ≡ 128 }
@@ -52,7 +52,7 @@ impl Levels {
         &self.numbers
     }
 
-    /// Whether the numbers are the same.
+    /// Whether the ordinals are the same.
     pub fn is_same(&self, other: &Levels) -> bool
         ensures { result ≡ same_name self.now other.now }
     {
@@ -62,7 +62,7 @@ impl Levels {
         }
     }
 
-    /// The levels of the numbers as text, where it is kept.
+    /// The levels of the numbers as text, where it is stored.
     pub fn text(&self) -> Option<&[u8]>
         ensures { IfSome result (λ t. t.now ≡ levels_text self.now) }
     {
@@ -74,7 +74,7 @@ impl Levels {
     }
 }
 
-/// The numbers as bytes, if each is below 256.
+/// The ordinals as bytes, if each is below 256.
 fn narrowed(numbers: &[u32; BLOCK]) -> Option<[u8; BLOCK]>
     ensures { IfSome result (λ b. b ≡ numbers.now) }
 {

@@ -1,4 +1,5 @@
-//! How the numbers of a deep name are put together: from others, or with the blocks of another name.
+//! How the ordinals of a deep name are put together: from others, or with the blocks of another
+//! name.
 
 ghost use Rattle.std.specs.Prelude.{◌≡◌, ◌≤◌, ◌<◌, ◌∷◌, IfOk, length};
 ghost use Rattle.tb_model.specs.Blocks.{IsDeep};
@@ -9,7 +10,7 @@ use crate::parts::Parts;
 use smallvec::SmallVec;
 use std::alloc::{AllocError, Global};
 
-/// The numbers of a deep name, in new blocks.
+/// The ordinals of a deep name, in new blocks.
 pub(crate) fn cut(alloc: Global, numbers: &[u32]) -> Result<Deep, AllocError>
     requires { 128 < length numbers.now }
     ensures { IfOk result (λ d. IsDeep d.near.items d.far.items numbers.now) }
@@ -28,7 +29,7 @@ pub(crate) fn cut(alloc: Global, numbers: &[u32]) -> Result<Deep, AllocError>
     })
 }
 
-/// The numbers of the parts.
+/// The ordinals of the parts.
 pub(crate) fn shared(alloc: Global, parts: &Parts<'_>) -> Result<Deep, AllocError>
     requires { 128 < length parts.now }
     ensures { IfOk result (λ d. IsDeep d.near.items d.far.items parts.now) }
@@ -40,7 +41,7 @@ pub(crate) fn shared(alloc: Global, parts: &Parts<'_>) -> Result<Deep, AllocErro
     })
 }
 
-/// A number, and those of the parts after it: 128 or more.
+/// An ordinal, and those of the parts after it: 128 or more.
 pub(crate) fn grown(alloc: Global, first: u32, rest: &Parts<'_>) -> Result<Deep, AllocError>
     requires { 128 ≤ length rest.now }
     ensures { IfOk result (λ d. IsDeep d.near.items d.far.items (first ∷ rest.now)) }
@@ -60,7 +61,7 @@ pub(crate) fn grown(alloc: Global, first: u32, rest: &Parts<'_>) -> Result<Deep,
     })
 }
 
-/// The blocks, each with one owner more, and room for another.
+/// The blocks, each with one owner more, and capacity for another.
 fn copied(alloc: Global, far: &[Block]) -> Result<Vec<Block>, AllocError>
     ensures { IfOk result (λ blocks. blocks.items ≡ far.now) }
 {

@@ -25,10 +25,11 @@ use std::marker::Model;
 use std::mem::size_of;
 
 /// The name of a task. Contracts see the path from the task up to the root: the root is the empty
-/// list, and the nth child of `t` is `n ∷ t`. The numbers stand in that order.
+/// list, and the nth child of `t` is `n ∷ t`. The ordinals are in that order.
 ///
-/// A name takes two words. Up to three numbers stand in them, and up to fourteen where each is below 256; others stand on
-/// the heap, once for all copies of the name. Where there are more than 128, the names above and below share blocks of 128.
+/// A name takes two words. Up to three ordinals are in them, and up to fourteen where each is below
+/// 256; others are on the heap, once for all copies of the name. Where there are more than 128, the
+/// names above and below share blocks of 128.
 #[derive(Drop, Debug)]
 pub struct TaskName {
     numbers: Numbers,
@@ -55,8 +56,8 @@ impl Clone for TaskName {
 
     ghost is_infallible = { λ a. length a ≤ 3 };
 
-    // takes no memory: a name of more than three numbers has one more owner, and is refused where it
-    // has nine quintillion
+    // takes no memory: a name of more than three ordinals has one more owner, and is refused where
+    // it has nine quintillion
     #[inline(always)]
     fn clone(&self) -> Result<TaskName, AllocError> {
         let numbers = self.numbers.copy()?;
@@ -123,7 +124,7 @@ impl TaskName {
         }
     }
 
-    /// The name of the nth child. Takes memory only where this has three numbers or more.
+    /// The name of the nth child. Takes memory only where this has three ordinals or more.
     pub fn child(&self, n: u32) -> Result<TaskName, AllocError>
         requires { 0 < n }
         ensures child { IfOk result (λ c. c ≡ child self.now n) }
@@ -134,7 +135,7 @@ impl TaskName {
     }
 
     /// The parent's name, which the root alone hasn't. Takes memory only where that has four
-    /// numbers or more.
+    /// ordinals or more.
     pub fn parent(&self) -> Result<Option<TaskName>, AllocError>
         ensures parent { IfOk result (λ p. p ≡ parent self.now) }
         ensures short { length self.now ≤ 4 → IsOk result }
@@ -174,7 +175,7 @@ impl TaskName {
         printed
     }
 
-    /// The name that the text spells. Takes memory only where that has four numbers or more.
+    /// The name that the text spells. Takes memory only where that has four ordinals or more.
     pub fn parse(alloc: Global, text: &[u8]) -> Result<TaskName, NameRefusal>
         ensures name { IfOk result (λ name. name ≡ spelled_name text.now) }
         ensures text { IfOk result (λ name. name_text name ≡ text.now) }
@@ -212,7 +213,7 @@ impl TaskName {
         }
     }
 
-    /// The numbers, where there are at most three.
+    /// The ordinals, where there are at most three.
     #[inline(always)]
     pub fn short(&self) -> Option<&[u32]>
         ensures some { IfSome result (λ n. n.now ≡ self.now) }
@@ -221,7 +222,7 @@ impl TaskName {
         self.numbers.short()
     }
 
-    /// The numbers, a byte each, where they are stored so: four to fourteen, each below 256.
+    /// The ordinals, a byte each, where they are stored so: four to fourteen, each below 256.
     #[inline(always)]
     pub fn few(&self) -> Option<&[u8]>
         ensures { IfSome result (λ n. n.now ≡ self.now) }
@@ -239,7 +240,7 @@ impl TaskName {
         !self.numbers.parts().far.is_empty()
     }
 
-    /// The numbers as they stand in memory.
+    /// The ordinals as they are in memory.
     #[inline(always)]
     pub fn parts(&self) -> Parts<'_>
         ensures { result ≡ self.now }

@@ -7,13 +7,13 @@ use crate::block::BLOCK;
 use crate::numbers::Numbers;
 use crate::parts::Parts;
 
-// How many numbers of a deep name are mixed: those nearest to the task, and those nearest to the
+// How many ordinals of a deep name are mixed: those nearest to the task, and those nearest to the
 // root.
 const NEAR: usize = 16;
 
 const FAR: usize = 8;
 
-/// A number made of the name's depth and numbers.
+/// A number made of the name's depth and ordinals.
 pub(crate) fn digest(numbers: &Numbers) -> u32
     ensures { result ≡ digest numbers.now }
 {
@@ -26,8 +26,8 @@ pub(crate) fn digest(numbers: &Numbers) -> u32
     }
 }
 
-/// The digest of a name of any length. It costs no more for a deep name than for one of 24 numbers:
-/// names that differ in the middle alone have one digest.
+/// The digest of a name of any length. It costs no more for a deep name than for one of 24
+/// ordinals: names that differ in the middle alone have one digest.
 fn of_parts(numbers: &Parts<'_>) -> u32
     ensures { result ≡ digest numbers.now }
 {
@@ -53,8 +53,8 @@ fn of_numbers(depth: u32, numbers: &[u32]) -> u32
     mixed(digest, &numbers[numbers.len() - FAR..])
 }
 
-/// The digest of a deep name, of which these are the numbers nearest to the task, those after them,
-/// and those at the root.
+/// The digest of a deep name, of which these are the ordinals nearest to the task, those after
+/// them, and those at the root.
 fn of_blocks(depth: u32, near: &[u32], next: &[u32], root: &[u32]) -> u32
     requires { (length next.now ≡ 128) × (length root.now ≡ 128) }
     ensures { result ≡ mixed (mixed depth (take 16 (near.now ++ next.now))) (drop 120 root.now) }
@@ -85,7 +85,7 @@ fn mixed(digest: u32, numbers: &[u32]) -> u32
     }
 }
 
-/// The digest of a name whose numbers take a byte each.
+/// The digest of a name whose ordinals take a byte each.
 fn of_bytes(numbers: &[u8]) -> u32
     requires { length numbers.now ≤ 24 }
     ensures { result ≡ digest numbers.now }

@@ -8,7 +8,8 @@ use crate::numbers::Numbers;
 use crate::parts::Parts;
 use std::cmp::Ordering;
 
-/// How the one name stands to the other: number by number from the root, a parent before its children.
+/// How the one name relates to the other: ordinal by ordinal from the root, a parent before its
+/// children.
 pub(crate) fn compared(a: &Numbers, b: &Numbers) -> Ordering
     ensures { result ≡ name_cmp a.now b.now }
 {
@@ -53,7 +54,7 @@ fn by_parts(a: &Parts<'_>, b: &Parts<'_>) -> Ordering
     }
 }
 
-/// How numbers stand to others, the last of each compared first.
+/// How ordinals relate to others, the last of each compared first.
 fn by_numbers(a: &[u32], b: &[u32]) -> Ordering
     ensures { result ≡ name_cmp a.now b.now }
 {

@@ -16,7 +16,7 @@ pub enum NameRefusal {
 }
 
 impl NameRefusal {
-    /// The number under which the refusal is known.
+    /// The code under which the refusal is known.
     pub fn number(self) -> u8
         ensures { result ≡ name_refusal_number self }
     {

@@ -1,4 +1,4 @@
-//! Names as bytes: how they are written, and how bytes fall into numbers.
+//! Names as bytes: how they are written, and how bytes fall into ordinals.
 
 ghost use Rattle.std.specs.Prelude.{◌≡◌, ◌<◌, ◌≤◌, ◌++◌, ◌+◌, ◌-◌, true, false, OnOk, OnErr, IfSome, IfNone, drop, length, string_bytes};
 ghost use Rattle.std.specs.List.{list_all};
@@ -13,7 +13,7 @@ use std::alloc::AllocError;
 /// How many levels of one digit each are appended at once.
 const LEVELS: usize = 16;
 
-/// Appends the name with these numbers, the task's own first. Some of it may stand where memory
+/// Appends the name with these ordinals, the task's own first. Some of it may stay where memory
 /// runs out.
 pub(crate) fn append_name(text: &mut String, numbers: &Parts<'_>) -> Result<(), AllocError>
     ensures ok { OnOk result (string_bytes text.new ≡ string_bytes text.old ++ name_text numbers.now) }
@@ -28,8 +28,8 @@ pub(crate) fn append_name(text: &mut String, numbers: &Parts<'_>) -> Result<(), 
     append_levels(text, numbers.near.as_slice())
 }
 
-/// Appends the levels of these numbers, after the name of the task that the last of them is a child of. Some of
-/// them may stand where memory runs out.
+/// Appends the levels of these ordinals, after the name of the task that the last of them is a
+/// child of. Some of them may stay where memory runs out.
 fn append_levels(text: &mut String, numbers: &[u32]) -> Result<(), AllocError>
     ensures ok { OnOk result (string_bytes text.new ≡ string_bytes text.old ++ levels_text numbers.now) }
     ensures begins { Begins (string_bytes text.old) (string_bytes text.new) }
@@ -51,7 +51,8 @@ fn append_levels(text: &mut String, numbers: &[u32]) -> Result<(), AllocError>
     Ok(())
 }
 
-/// Where the last sixteen numbers begin, if there are as many and each has one digit: deep names are mostly of such.
+/// Where the last sixteen ordinals begin, if there are as many and each has one digit: deep names
+/// are mostly of such.
 pub fn digits_at(numbers: &[u32]) -> Option<usize>
     ensures some { IfSome result (λ at. (at + 16 ≡ length numbers.now) × (list_all is_digit (drop at numbers.now) ≡ true)) }
     ensures none { IfNone result (16 ≤ length numbers.now → list_all is_digit (drop (length numbers.now - 16) numbers.now) ≡ false) }
@@ -106,7 +107,7 @@ fn append_digits(text: &mut String, numbers: &[u32]) -> Result<(), AllocError>
     text.push_str(unsafe { str::from_utf8_unchecked(&levels) })
 }
 
-/// Where the part behind the last dot begins.
+/// Where the part after the last dot begins.
 pub(crate) fn last_part(text: &[u8]) -> usize
     ensures { IsLastPart text.now result }
 {

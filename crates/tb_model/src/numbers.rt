@@ -1,4 +1,4 @@
-//! The numbers of a name.
+//! The ordinals of a name.
 
 ghost use Rattle.std.specs.Prelude.{◌≡◌, ◌≤◌, ◌<◌, [], ◌∷◌, ◌++◌, length, IfOk, IsOk, IfSome, IfNone, Some};
 ghost use Rattle.tb_model.specs.Names.{same_name, parent};
@@ -17,8 +17,8 @@ use std::fmt;
 use std::marker::Model;
 use std::sync::Arc;
 
-/// A list that takes two words. A short one takes no memory, nor does one of a few small numbers; the copies of a longer
-/// one share it.
+/// A list that takes two words. A short one takes no memory, nor does one of a few small ordinals;
+/// the copies of a longer one share it.
 #[derive(Drop)]
 pub(crate) struct Numbers {
     alloc: Global,
@@ -38,7 +38,7 @@ impl Model for Numbers {
 }
 
 impl Numbers {
-    /// No numbers.
+    /// No ordinals.
     pub fn new(alloc: Global) -> Numbers
         ensures { result ≡ [] }
     {
@@ -48,7 +48,7 @@ impl Numbers {
         }
     }
 
-    /// A list of these numbers. Takes memory only for more than three.
+    /// A list of these ordinals. Takes memory only for more than three.
     pub fn from_slice(alloc: Global, numbers: &[u32]) -> Result<Numbers, AllocError>
         ensures ok { IfOk result (λ n. n ≡ numbers.now) }
         ensures short { length numbers.now ≤ 3 → IsOk result }
@@ -63,7 +63,7 @@ impl Numbers {
         Ok(Numbers { alloc, stored })
     }
 
-    /// The numbers of these parts. Takes memory only for more than three.
+    /// The ordinals of these parts. Takes memory only for more than three.
     pub fn from_parts(alloc: Global, parts: &Parts<'_>) -> Result<Numbers, AllocError>
         ensures ok { IfOk result (λ n. n ≡ parts.now) }
         ensures short { length parts.now ≤ 3 → IsOk result }
@@ -75,7 +75,7 @@ impl Numbers {
         Ok(Numbers { alloc, stored })
     }
 
-    /// A number, and those of the parts after it. Takes memory only for more than three.
+    /// An ordinal, and those of the parts after it. Takes memory only for more than three.
     pub fn with_first(alloc: Global, first: u32, rest: &Parts<'_>) -> Result<Numbers, AllocError>
         ensures ok { IfOk result (λ n. n ≡ first ∷ rest.now) }
         ensures short { length rest.now < 3 → IsOk result }
@@ -89,7 +89,7 @@ impl Numbers {
         Ok(Numbers { alloc, stored })
     }
 
-    /// A number, and these after it. Takes memory only where these are three or more.
+    /// An ordinal, and these after it. Takes memory only where these are three or more.
     #[inline(always)]
     pub fn child(&self, first: u32) -> Result<Numbers, AllocError>
         ensures ok { IfOk result (λ n. n ≡ first ∷ self.now) }
@@ -104,7 +104,7 @@ impl Numbers {
         }
     }
 
-    /// A number, and these after it, where they don't fit in the value together.
+    /// An ordinal, and these after it, where they don't fit in the value together.
     // out of line: a short list doesn't pay for its stack frame
     #[inline(never)]
     fn child_in_general(&self, first: u32) -> Result<Numbers, AllocError>
@@ -114,8 +114,8 @@ impl Numbers {
         Numbers::with_first(self.alloc, first, &self.parts())
     }
 
-    /// These numbers but the first, where these and the others stand in the value; of four small
-    /// numbers it isn't said.
+    /// These ordinals but the first, where these and the others are in the value; of four small
+    /// ordinals it isn't said.
     #[inline(always)]
     pub fn rest_in_place(&self) -> Option<Numbers>
         ensures { IfSome result (λ n. Some n ≡ parent self.now) }
@@ -132,7 +132,7 @@ impl Numbers {
         self.alloc
     }
 
-    /// The numbers, as they stand in memory.
+    /// The ordinals, as they are in memory.
     #[inline]
     pub fn parts(&self) -> Parts<'_>
         ensures { result ≡ self.now }
@@ -162,7 +162,7 @@ impl Numbers {
         }
     }
 
-    /// The numbers, where up to three stand in the value itself.
+    /// The ordinals, where up to three are in the value itself.
     #[inline(always)]
     pub fn short(&self) -> Option<&[u32]>
         ensures is { IfSome result (λ n. n.now ≡ self.now) }
@@ -180,7 +180,7 @@ impl Numbers {
         Some(numbers)
     }
 
-    /// The numbers, where more of them stand there.
+    /// The ordinals, where more of them are there.
     #[inline(always)]
     pub fn few(&self) -> Option<&Few>
         ensures { IfSome result (λ n. n.now ≡ self.now) }
@@ -213,7 +213,7 @@ impl Numbers {
         })
     }
 
-    /// Whether the numbers are the same.
+    /// Whether the ordinals are the same.
     #[inline(always)]
     pub fn is_same(&self, other: &Numbers) -> bool
         ensures { result ≡ same_name self.now other.now }
@@ -230,7 +230,7 @@ impl Numbers {
         }
     }
 
-    /// Whether the numbers are the same, for lists of any length.
+    /// Whether the ordinals are the same, for lists of any length.
     // out of line: a comparison of two short names of one length doesn't pay for its stack frame
     #[inline(never)]
     fn is_same_in_general(&self, other: &Numbers) -> bool
@@ -245,7 +245,7 @@ impl Numbers {
         }
     }
 
-    /// Whether the numbers are the same, where they are stored in two ways: of short lists the
+    /// Whether the ordinals are the same, where they are stored in two ways: of short lists the
     /// count decides.
     fn is_same_elsewhere(&self, other: &Numbers) -> bool
         ensures { result ≡ same_name self.now other.now }
@@ -276,7 +276,7 @@ fn in_place(numbers: &[u32]) -> Option<Stored>
     }
 }
 
-/// A number, and these after it, where all stand in the value.
+/// An ordinal, and these after it, where all are in the value.
 #[inline(always)]
 fn with_first_in_place(stored: &Stored, first: u32) -> Option<Stored>
     ensures { IfSome result (λ s. (numbers_in s ≡ first ∷ numbers_in stored.now) × IsShortest s) }
@@ -291,7 +291,7 @@ fn with_first_in_place(stored: &Stored, first: u32) -> Option<Stored>
     }
 }
 
-/// The numbers but the first, where these and the others stand in the value; of four small numbers
+/// The ordinals but the first, where these and the others are in the value; of four small ordinals
 /// it isn't said.
 #[inline(always)]
 fn rest_in_place(stored: &Stored) -> Option<Stored>
@@ -306,7 +306,7 @@ fn rest_in_place(stored: &Stored) -> Option<Stored>
     }
 }
 
-/// A number, and fewer than 128 after it.
+/// An ordinal, and fewer than 128 after it.
 fn with_few(alloc: Global, first: u32, rest: &[u32]) -> Result<Stored, AllocError>
     requires { length rest.now < 128 }
     ensures ok { IfOk result (λ s. (numbers_in s ≡ first ∷ rest.now) × IsShortest s) }

@@ -32,7 +32,7 @@ impl Operands {
         }
     }
 
-    /// Adds an argument behind the others.
+    /// Adds an argument after the others.
     pub fn push(&mut self, operand: Operand) -> Result<(), AllocError>
         ensures ok { OnOk result (self.new ≡ self.old ++ operand ∷ []) }
         ensures err { OnErr result (self.new ≡ self.old) }

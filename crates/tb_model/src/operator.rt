@@ -1,6 +1,6 @@
 //! Arithmetic of a `let`.
 
-/// An operation on two numbers, which wraps in 64-bit two's complement.
+/// An operation on two values, which wraps in 64-bit two's complement.
 #[derive(Clone, Copy, Debug, Drop, PartialEq, Eq)]
 pub enum Operator {
     Plus,

@@ -1,4 +1,4 @@
-//! Numbers of children and steps, as they are spelled.
+//! Ordinals of children and steps, as they are spelled.
 
 ghost use Rattle.std.specs.Prelude.{◌≡◌};
 ghost use Rattle.tb_model.specs.Spelling.{ordinal_of};

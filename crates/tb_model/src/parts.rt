@@ -1,4 +1,4 @@
-//! The numbers of a name, as they stand in memory.
+//! The ordinals of a name, as they are in memory.
 
 ghost use Rattle.std.specs.Prelude.{◌≡◌, ◌≤◌, ◌<◌, ◌∷◌, ◌++◌, [], IfSome, IfNone, length, slice_get};
 ghost use Rattle.tb_model.specs.Blocks.{far_numbers, AreFull, IsSplit};
@@ -11,8 +11,8 @@ use crate::run::Run;
 use std::marker::Model;
 use std::mem::replace;
 
-/// A name's numbers: those nearest to the task, up to 128, then those in the blocks, of which the one at the
-/// root comes first.
+/// A name's ordinals: those nearest to the task, up to 128, then those in the blocks, of which the
+/// one at the root comes first.
 #[derive(Drop)]
 pub struct Parts<'a> {
     pub(crate) near: Run<'a>,
@@ -31,14 +31,14 @@ impl<'a> Model for Parts<'a> {
 }
 
 impl<'a> Parts<'a> {
-    /// The first number. The root has none.
+    /// The first ordinal. The root has none.
     pub fn first(&self) -> Option<u32>
         ensures { result ≡ slice_get self.now 0 }
     {
         self.near.as_slice().first().copied()
     }
 
-    /// The first number, and those after it. The root has none.
+    /// The first ordinal, and those after it. The root has none.
     pub fn split_first(&self) -> Option<(u32, Parts<'a>)>
         ensures some { IfSome result (λ r. self.now ≡ r.0 ∷ r.1) }
         ensures none { IfNone result (self.now ≡ []) }
@@ -58,7 +58,8 @@ impl<'a> Parts<'a> {
         }
     }
 
-    /// Takes off the numbers that stand together nearest to the root, 128 at most. It takes none where there are no more.
+    /// Takes off the ordinals that are together nearest to the root, 128 at most. It takes none
+    /// where there are no more.
     pub fn take_run(&mut self) -> Run<'a>
         ensures split { self.old ≡ self.new ++ result }
         ensures none { result ≡ [] → self.old ≡ [] }
@@ -73,8 +74,8 @@ impl<'a> Parts<'a> {
         }
     }
 
-    /// Takes off the 128 numbers nearest to the root, and returns them with their levels as text, where a block keeps
-    /// them so: where each has one digit. Takes none elsewhere.
+    /// Takes off the 128 ordinals nearest to the root, and returns them with their levels as text,
+    /// where a block retains them so: where each has one digit. Takes none otherwise.
     pub fn take_spelled(&mut self) -> Option<(&'a [u32], &'a [u8])>
         ensures split { IfSome result (λ r. self.old ≡ self.new ++ r.0.now) }
         ensures text { IfSome result (λ r. r.1.now ≡ levels_text r.0.now) }
@@ -89,7 +90,7 @@ impl<'a> Parts<'a> {
         Some((block.as_slice(), text))
     }
 
-    /// Whether the numbers are the same.
+    /// Whether the ordinals are the same.
     pub fn is_same(&self, other: &Parts<'_>) -> bool
         ensures { result ≡ same_name self.now other.now }
     {
@@ -102,7 +103,7 @@ impl<'a> Parts<'a> {
     }
 }
 
-/// Whether as many blocks have the same numbers.
+/// Whether as many blocks have the same ordinals.
 fn are_same_blocks(a: &[Block], b: &[Block]) -> bool
     requires long { length a.now ≡ length b.now }
     requires full { AreFull a.now × AreFull b.now }

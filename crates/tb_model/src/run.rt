@@ -1,4 +1,4 @@
-//! Numbers of a name that stand together.
+//! Ordinals of a name that are together.
 
 ghost use Rattle.std.specs.Prelude.{◌≡◌, ◌<◌, [], drop, length};
 
@@ -6,7 +6,7 @@ use crate::lent::Lent;
 use crate::spread::Spread;
 use std::marker::Model;
 
-/// Numbers of a name that stand together, those nearest to the task first.
+/// Ordinals of a name that are together, those nearest to the task first.
 #[derive(Drop)]
 pub struct Run<'a> {
     lent: Lent<'a>,
@@ -22,7 +22,7 @@ impl<'a> Model for Run<'a> {
 }
 
 impl<'a> Run<'a> {
-    /// No numbers.
+    /// No ordinals.
     #[inline(always)]
     pub(crate) fn none() -> Run<'a>
         ensures { result ≡ [] }
@@ -32,7 +32,7 @@ impl<'a> Run<'a> {
         }
     }
 
-    /// A run of these numbers, which are lent.
+    /// A run of these ordinals, which are lent.
     #[inline(always)]
     pub(crate) fn of_slice(numbers: &'a [u32]) -> Run<'a>
         ensures { result ≡ numbers.now }
@@ -42,7 +42,7 @@ impl<'a> Run<'a> {
         }
     }
 
-    /// A run of numbers that stand in a name itself.
+    /// A run of ordinals that are in a name itself.
     #[inline(always)]
     pub(crate) fn of_spread(numbers: Spread) -> Run<'a>
         ensures { result ≡ numbers }
@@ -52,7 +52,7 @@ impl<'a> Run<'a> {
         }
     }
 
-    /// The numbers.
+    /// The ordinals.
     #[inline(always)]
     pub fn as_slice(&self) -> &[u32]
         ensures { result.now ≡ self.now }
@@ -63,7 +63,7 @@ impl<'a> Run<'a> {
         }
     }
 
-    /// The run without its first number.
+    /// The run without its first ordinal.
     #[inline(always)]
     pub(crate) fn without_first(&self) -> Run<'a>
         requires { 0 < length self.now }

@@ -11,8 +11,8 @@ use std::sync::Arc;
 
 /// A spawn, once for all copies of it. Contracts see the spawn.
 ///
-/// It takes one word, so that an action of another kind, of which a session has many more, has no room
-/// for a name, arguments and items.
+/// It takes one word, so that an action of another kind, of which a session has many more, has no
+/// capacity for a name, arguments and items.
 #[derive(Drop)]
 pub struct Spawned {
     spawn: Arc<Spawn>,

@@ -1,11 +1,11 @@
-//! Numbers that stand in a name itself, as they are lent.
+//! Ordinals that are in a name itself, as they are lent.
 
 ghost use Rattle.std.specs.Prelude.{◌≡◌, ◌≤◌, ◌<◌, drop, length, take};
 
 use crate::few::FEW;
 use std::marker::Model;
 
-/// Up to fourteen numbers, four bytes each.
+/// Up to fourteen ordinals, four bytes each.
 #[derive(Drop)]
 pub(crate) struct Spread {
     numbers: [u32; FEW],
@@ -24,7 +24,7 @@ impl Model for Spread {
 }
 
 impl Spread {
-    /// The first so many of the numbers.
+    /// The first so many of the ordinals.
     #[inline(always)]
     pub fn new(numbers: [u32; FEW], count: usize) -> Spread
         requires { count ≤ 14 }
@@ -37,7 +37,7 @@ impl Spread {
         }
     }
 
-    /// The numbers.
+    /// The ordinals.
     #[inline(always)]
     pub fn as_slice(&self) -> &[u32]
         ensures { result.now ≡ self.now }
@@ -45,7 +45,7 @@ impl Spread {
         &self.numbers[self.from..self.to]
     }
 
-    /// The numbers after the first.
+    /// The ordinals after the first.
     #[inline(always)]
     pub fn without_first(&self) -> Spread
         requires { 0 < length self.now }

@@ -11,7 +11,7 @@ use std::mem::size_of;
 /// A statement of a body, of which a task takes one at each step.
 #[derive(Clone, Debug, Drop)]
 pub enum Statement {
-    /// The line that names the body, at which a pending task stands.
+    /// The line that names the body, at which a pending task is.
     Start,
     Let {
         reg: u8,

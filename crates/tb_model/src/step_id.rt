@@ -1,4 +1,4 @@
-//! The number of a step.
+//! The ordinal of a step.
 
 ghost use Rattle.std.specs.Prelude.{◌≡◌, ◌<◌, ◌≤◌, ◌++◌, ◌↔◌, IfOk, OnOk, OnErr, IsErrOf, IsFalse, length, string_bytes};
 ghost use Rattle.std.specs.List.{position_or_len};
@@ -34,7 +34,7 @@ impl StepId {
         printed
     }
 
-    /// The step that the text spells. Takes memory only where its task's name has four numbers or
+    /// The step that the text spells. Takes memory only where its task's name has four ordinals or
     /// more.
     pub fn parse(alloc: Global, text: &[u8]) -> Result<StepId, NameRefusal>
         ensures id { IfOk result (λ id. id ≡ spelled_step_id text.now) }
@@ -61,7 +61,7 @@ fn append_step_id(text: &mut String, task: &Parts<'_>, k: u32) -> Result<(), All
     append_number(text, k)
 }
 
-// How many bytes stand in front of the first `#`.
+// How many bytes are before the first `#`.
 fn hash_at(text: &[u8]) -> usize
     ensures at { result ≡ position_or_len is_hash text.now }
     ensures within { result ≤ length text.now }

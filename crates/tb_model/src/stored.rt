@@ -1,12 +1,13 @@
-//! Where the numbers of a name stand.
+//! Where the ordinals of a name are.
 
 use crate::deep::Deep;
 use crate::few::Few;
 use smallvec::SmallVec;
 use std::sync::Arc;
 
-/// Up to three numbers stand in the value itself, and up to fourteen small ones. Others stand on the heap, where all
-/// copies share them; the names of a deep task and of its descendants share blocks of them.
+/// Up to three ordinals are in the value itself, and up to fourteen small ones. Others are on the
+/// heap, where all copies share them; the names of a deep task and of its descendants share blocks
+/// of them.
 #[derive(Drop)]
 pub(crate) enum Stored {
     Zero,

@@ -11,7 +11,7 @@ use std::sync::Arc;
 
 /// The items of a `taskwait` that was passed, once for all copies of them. Contracts see the list.
 ///
-/// They take one word, so that an action of another kind has no room for a list.
+/// They take one word, so that an action of another kind has no capacity for a list.
 #[derive(Drop)]
 pub struct WaitItems {
     items: Arc<Items>,

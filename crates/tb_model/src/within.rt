@@ -6,7 +6,7 @@ ghost use Rattle.tb_model.specs.Names.{is_within};
 use crate::parts::Parts;
 use crate::run::Run;
 
-/// Whether the numbers end in those of the other.
+/// Whether the ordinals end in those of the other.
 pub(crate) fn ends_with(numbers: &Parts<'_>, end: &Parts<'_>) -> bool
     ensures { result ≡ is_within end.now numbers.now }
 {
@@ -14,7 +14,7 @@ pub(crate) fn ends_with(numbers: &Parts<'_>, end: &Parts<'_>) -> bool
     if numbers.far.len() < shared {
         return false;
     }
-    // what stands in front of as many blocks as the end has
+    // what is before as many blocks as the end has
     let front = match &numbers.far[shared..] {
         [] => numbers.near.as_slice(),
         [block, ..] => block.as_slice(),

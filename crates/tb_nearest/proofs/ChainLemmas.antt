@@ -22,7 +22,7 @@ legal_front : (cells : Cells) {F G : History} → Needs F G → Legal cells F �
 legal_front cells (directly v u b front h) l = legal_below cells b (u ∷ front) l.0
 legal_front cells (by_way n m) l = legal_front cells m (legal_front cells n l)
 
--- by the number of events from the one to the other
+-- by the count of events from the one to the other
 to_chain : (cells : Cells) (n : ℕ) {F G : History} → Needs F G → Legal cells F → length F ≤ n + length G → Chain F G
 to_chain cells n (by_way {F} {G} {H} p q) l i =
     further (to_chain cells n p l (omega (arith, i, older q))) (to_chain cells n q (legal_front cells p l) (omega (arith, i, older p)))

@@ -1,4 +1,4 @@
--- A close behind the end of a member: nearest, or by way of another close of a group over it.
+-- A close after the end of a member: nearest, or by way of another close of a group over it.
 use Rattle.std.proofs.Common.{◌≡◌, ◌⊎◌, inl, inr, ⊎_elim, ℕ, List, [], ◌∷◌, ◌++◌, true, ◌&&◌, refl, sym, ap, subst}
 use Rattle.std.specs.List.{list_any}
 use Rattle.std.proofs.lemmas.Bool.{or_cases, or_left, or_right, and_parts, cases_Bool, both_ways, false≢true}
@@ -129,7 +129,7 @@ module _ (cells : Cells) (v u : Event) (between front : History) (l : Legal cell
         (λ x. ⊎_elim (λ s. no_close_starts f.who.action f.closes s) (λ r. not_running cells E f.who.task lw.0 x r) (begun cells f.who.task (own f.who.task E) f.who.action lw.1.own))
         (by_waiting H v.task v.action Close f.who.task a i) down
 
-    -- that of a task above is behind the end of v's
+    -- that of a task above is after the end of v's
     no_outer : is_member (own f.who.task E) v.task ≡ true → IsSpawned E v.task → ⊥
     no_outer i s =
         let ended : HasEnded E v.task = (subst (IsTimely cells E f.who.task) f.closes lw.1.timely) v.task i s in

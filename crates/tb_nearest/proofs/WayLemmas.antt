@@ -53,7 +53,7 @@ module _ (H : History) (v u : Event) where
       or_right (is_of v.task u) _ (or_right (spawns v.task u) _ (or_right (conflicts v.action u.action) _
       (or_right (is_end u.action && needs_end_of H v.task v.action u.task) _ (and_from (is_print v.action) _ p q))))
 
--- a direct need of an event that stands in H
+-- a direct need of an event that is in H
 pub direct : (v y : Event) (H later front : History) → H ≡ later ++ y ∷ front → needs H v y ≡ true → Needs (v ∷ H) (y ∷ front)
 direct v y H later front e h =
     subst (λ K. Needs (v ∷ K) (y ∷ front)) (sym e) (directly v y later front (subst (λ K. needs K v y ≡ true) e h))
@@ -82,7 +82,7 @@ way_by v u w between front later earlier e up down = record {
   lower = directly w u earlier front down;
 }
 
--- in between stands an event of a task that ends behind it, and for whose end v waits
+-- in between is an event of a task that ends after it, and for whose end v waits
 pub by_ended : (v u w : Event) (between front later earlier : History) → between ≡ later ++ w ∷ earlier → HasEnded (between ++ u ∷ front) w.task
     → (ends w.task w ≡ true → ⊥) → (HasEnded (earlier ++ u ∷ front) w.task → ⊥)
     → needs_end_of (between ++ u ∷ front) v.task v.action w.task ≡ true → needs (earlier ++ u ∷ front) w u ≡ true → Way v u between front
@@ -111,7 +111,7 @@ none_or_way v u between front test none some =
 
 -- ---- one's own events
 
--- a task that has none in between has behind them what it had in front
+-- a task that has none in between has after them what it had in front
 pub own_behind : (t : Name) (b front : History) → list_any (is_of t) b ≡ false → own t (b ++ front) ≡ own t front
 own_behind t [] front h = refl
 own_behind t (v ∷ b) front h =

@@ -38,7 +38,7 @@ some_close m (w ∷ between) front = (is_close w.action && is_member (own w.task
 
 -- ---- the nearest
 
--- v, which stands behind these events between, needs u, in front of them, nearest
+-- v, which is after these events between, needs u, in front of them, nearest
 pub data Nearest (v u : Event) (between front : History) : Type 0 where
   -- the task's next event
   next : IsTrue (is_of v.task u) → own v.task between ≡ [] → Nearest v u between front
@@ -58,7 +58,7 @@ pub data Nearest (v u : Event) (between front : History) : Type 0 where
   -- the next close of a group of which the ended task is a member
   close : IsTrue (is_end u.action) → v.action ≡ Close → IsTrue (is_member (own v.task (between ++ u ∷ front)) u.task)
       → IsFalse (some_close u.task between (u ∷ front)) → Nearest v u between front
-  -- the event of the parent that stood at the undeferred child
+  -- the event of the parent that was at the undeferred child
   resume : IsTrue (is_end u.action) → IsTrue (holds (own v.task (between ++ u ∷ front)) u.task) → Nearest v u between front
 
 -- nearest needs, one after another

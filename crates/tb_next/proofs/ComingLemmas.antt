@@ -23,7 +23,7 @@ use Rattle.tb_next.specs.Fitting.{Fits}
 use Rattle.tb_next.specs.Plans.{IsComing, IsLeastComing, IsNext, IsStepOf}
 use Rattle.tb_next.proofs.PlanLemmas.{IsReadyPlan, can_by_plan, plan_fits, plan_ready, refusal_of_plan}
 
--- ---- the statement at which a task stands, evaluated for it
+-- ---- the statement at which a task is, evaluated for it
 
 pub is_coming : (P : Program) (run : Seen) (t : Name) (k : Standing) (i : Instr) (m : Coming) → Fits P run → is_spawned (history run) t ≡ true → has_ended run t ≡ false → config_of run t ≡ config_with t k
     → instruction i ≡ instr_at P k.at → i.line ≡ k.at → i.cells ≡ length P.cells → IsActionOf i t k.regs m.action → names_allowed i.cells m.action ≡ true
@@ -64,7 +64,7 @@ module _ (P : Program) (run : Seen) (t : Name) (m : Coming) (k : IsComing P run 
   pub next_of : IsNext run t m
   next_of = record { plan = k.plan; says = k.says; fits = k.of_task.fits; current = k.of_task.current }
 
--- the refusal of a plan by what keeps its task from the action
+-- the refusal of a plan by what blocks its task's action
 pub kept_of : (run : Seen) (t : Name) (m : Coming) (p : Plan) (e : StepRefusal) → IsStepOf t m p → IsCurrent run p → IsKeptBy run t m.action e → IsKept run p e
 kept_of run t m p e says current k =
     kept_by run p e current (record { hindrance = k.hindrance; found = way_so run t m p says ∙ k.found; named = k.named })

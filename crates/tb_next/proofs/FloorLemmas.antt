@@ -237,7 +237,7 @@ module _ (P : Program) (v : Event) (H : History) (l : LegalFor P (v ∷ H)) (u :
       in
       goes_so (is_spawned H u) (list_any (ends u) H) (in_the_way H u (planned P H u zero_ℤ)) spawned (or_parts (ends u v) (list_any (ends u) H) g.1).1 free
 
--- ---- the floor after an event
+-- ---- the search start after an event
 
 -- a task in front of the event's was generated in front of it
 elder_spawned : (P : Program) (v : Event) (H : History) → LegalFor P (v ∷ H) → (u : Name) → (IsAtMost v.task u → ⊥) → IsSpawned (v ∷ H) u → IsSpawned H u
@@ -252,7 +252,7 @@ elder_spawned P v H l (n ∷ u) before s =
 other_task : (v : Event) (u : Name) → (IsAtMost v.task u → ⊥) → is_of u v ≡ false
 other_task v u before = false_from_ne_true (is_of u v) (λ e. before (subst (IsAtMost v.task) (same_true v.task u e) (at_most_itself v.task)))
 
--- a task in front of another isn't behind it
+-- a task in front of another isn't after it
 in_front : (f u t : Name) → name_cmp f u ≡ Greater → IsAtMost f t → IsAtMost t u → ⊥
 in_front f u t g a b = at_most_trans f t u a b g
 

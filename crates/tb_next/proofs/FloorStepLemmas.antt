@@ -1,4 +1,4 @@
--- The floor after a step, and the look from it to the least task that can step.
+-- The search start after a step, and the look from it to the least task that can step.
 use Rattle.std.proofs.Common.{◌≡◌, ◌≢◌, ⊎_elim, ℕ, [], ◌∷◌, Bool, true, false, refl, sym, ap, ◌∙◌, subst, IsTrue, Option, Some, None}
 use Rattle.std.specs.Prelude.{is_none, option_map, slice_get}
 use Rattle.std.specs.List.{list_any}
@@ -45,7 +45,7 @@ greater Less h = absurd (false≢true h)
 greater Equal h = absurd (false≢true h)
 greater Greater h = refl
 
--- by the test, the name replaces the floor or not
+-- by the test, the name replaces the search start or not
 pub below_task : (t f : Name) (old : Option Name) (o : Ordering) (b : Bool) → old ≡ Some f → o ≡ name_cmp f t → b ≡ is_gt o → b ≡ true → IsKeptBelow t old (Some t)
 below_task t f old o b e c d h = (f, e, at_most_other f t (sym c ∙ greater o (sym d ∙ h)), at_most_itself t)
 
@@ -80,7 +80,7 @@ carried_lowered H e old (Some g) s low P v F same legal can floor =
     (floor_lowered P v F k.0 g task.0 p (subst (LegalFor P) same legal) (ap (λ (w : Event). w.task) (newest_so H F e v s same) ∙ task.1) (subst (λ K. list_any (ends p) K ≡ false) same low.2)
     k.2 k.3 (subst (IsFloor P F) k.1 floor))
 
--- ---- a step that is taken
+-- ---- a step that is executed
 
 pub floor_stepped : (P : Program) (run new : Seen) (t : Name) (p : Plan) (i : StepId) → Fits P run → IsPlanOf P run t p → Steps run p new i → (old now : Option Name) → IsCarried (core.history new) old now → IsFloor P (core.history run) old → IsFloor P (core.history new) now
 floor_stepped P run new t p i f plan k old now carried floor =
@@ -92,10 +92,10 @@ floor_stepped P run new t p i f plan k old now carried floor =
     let legal : LegalFor P (v ∷ H) = ((f.legal.0, next.may), (f.legal.1, next.follows)) in
     carried P v H same (subst (LegalFor P) (sym same) legal) (ap is_none (next_isnt_refused P H v f.well_formed f.legal next)) floor
 
--- ---- the look from the floor
+-- ---- the look from the search start
 
 module _ (P : Program) (H : History) where
-  -- the floor can't step
+  -- the search start can't step
   pub passed_floor : (f : Name) → IsFloor P H (Some f) → can_step P H f ≡ false → IsPassed P H (Some f)
   passed_floor f floor never u h = by_cmp (name_cmp f u) refl
     where
@@ -121,7 +121,7 @@ module _ (P : Program) (H : History) where
       let s : m.0 ≡ t = cc (sym m.1 ∙ l) in
       subst (λ w. IsAtMost w u) s m.2
 
-  -- the least task that can step is a floor
+  -- the least task that can step is a search start
   pub floor_raised : (t : Name) (o : Option Name) → least_ready P H ≡ Some t → IsRaised t o → IsFloor P H o
   floor_raised t o l r = ⊎_elim (λ e. subst (IsFloor P H) (sym e) (least_floor t l)) (λ e. subst (IsFloor P H) (sym e) tt) r
 
@@ -132,7 +132,7 @@ first_free P H claims seat t l free = record {
   least = λ u q. (t, refl, least_floor P H t l u q.0);
 }
 
--- ---- nothing keeps the least task that can step from the plan of its step
+-- ---- nothing blocks the step of the least task that can step
 
 clear_by : (h : Option Hindrance) → is_none (option_map By h) ≡ true → h ≡ None
 clear_by None e = refl

@@ -1,4 +1,4 @@
--- A plan of the program: what its event is, and what is told of its refusal.
+-- A plan of the program: what its event is, and what is said of its refusal.
 use Rattle.std.proofs.Common.{◌≡◌, ◌≢◌, ℕ, List, length, refl, sym, ap, ◌∙◌, subst, Option, Some, None, option_map, ◌∷◌, ap₂, ℤ}
 use Rattle.std.specs.Prelude.{Result, Ok, Err, IfOk}
 use Rattle.std.proofs.lemmas.Bool.{both_ways}

@@ -1,4 +1,4 @@
--- The newest step of a kind stands at the last of the places that are of the kind.
+-- The newest step of a kind is at the last of the indexes that are of the kind.
 use Rattle.std.proofs.Common.{◌≡◌, ◌<◌, ◌≤◌, ◌+◌, ◌-◌, ℕ, zero, suc, List, [], ◌∷◌, ◌++◌, Bool, true, false, cond, Option, Some, None, refl, sym, ap, ◌∙◌, length, map, take, get_or, slice_get, reverse, arith}
 use Rattle.std.proofs.Math.Seq.{take-length}
 use Rattle.std.proofs.lemmas.List.{length-map, length-reverse, length-take-le, reverse-append, reverse-reverse, take_all, take_more, get_or_default}
@@ -39,10 +39,10 @@ cut_last (y ∷ xs) x h =
     let n : ℕ = length (y ∷ xs) - 1 in
     sym (ap (λ z. take n (y ∷ xs) ++ z ∷ []) (get_or_from_slice_get (y ∷ xs) n x 0 h)) ∙ sym (take_more (y ∷ xs) n 0 (omega arith)) ∙ take_all (n + 1) (y ∷ xs) (omega arith)
 
--- ---- places of the steps that pass a test, among which are all of the kind
+-- ---- indexes of the steps that pass a test, among which are all of the kind
 
 module _ (wide : Event → Bool) (passes : Action → Bool) (entries : List Entry) where
-  -- the places of the steps in front of this place
+  -- the indexes of the steps in front of this index
   abbrev places_before : ℕ → List ℕ
   places_before n = places_where wide (reverse (history_of (take n entries)))
 
@@ -50,7 +50,8 @@ module _ (wide : Event → Bool) (passes : Action → Bool) (entries : List Entr
   abbrev last_before : ℕ → Option StepId
   last_before n = last_where passes (history_of (take n entries))
 
-  -- so many of these places are left: they are those in front of some place, from which on none of the kind stands
+  -- so many of these indexes are left: they are those in front of some index, from which on there
+  -- is none of the kind
   pub record AreLeft (places : List ℕ) (left : ℕ) : Type 0 where
     pub front : ℕ
     pub within : front ≤ length entries
@@ -58,7 +59,7 @@ module _ (wide : Event → Bool) (passes : Action → Bool) (entries : List Entr
     pub are : take left places ≡ places_before front
     pub none : last_before front ≡ last_where passes (history_of entries)
 
-  -- the last of the places in front of place n is this, and these are the others
+  -- the last of the indexes in front of index n is this, and these are the others
   pub record IsLast (n : ℕ) (others : List ℕ) (at : ℕ) : Type 0 where
     pub within : at < n
     pub here : (e : Entry) → e ≡ get_or entries at e → wide e.event ≡ true
@@ -66,7 +67,7 @@ module _ (wide : Event → Bool) (passes : Action → Bool) (entries : List Entr
     pub none : last_before (at + 1) ≡ last_before n
 
   module _ (wider : (v : Event) → wide v ≡ false → passes v.action ≡ false) where
-    -- the entry at place n
+    -- the entry at index n
     module _ (n : ℕ) (e : Entry) (within : n < length entries) (here : e ≡ get_or entries n e) where
       more : history_of (take (suc n) entries) ≡ e.event ∷ history_of (take n entries)
       more =
@@ -96,7 +97,7 @@ module _ (wide : Event → Bool) (passes : Action → Bool) (entries : List Entr
       last_yes : passes e.event.action ≡ true → last_before (suc n) ≡ Some (step_of (history_of (take n entries)) e.event)
       last_yes h = ap (last_where passes) more ∙ ap (λ b. cond b (Some (step_of (history_of (take n entries)) e.event)) (last_before n)) h
 
-      -- the step there is the last of the kind, where none stands after it
+      -- the step there is the last of the kind, where none comes after it
       pub found_here : passes e.event.action ≡ true → last_before (n + 1) ≡ last_where passes (history_of entries) → found_step entries (Some n) ≡ last_where passes (history_of entries)
       found_here h none =
           let next : suc n ≡ n + 1 = omega arith in
@@ -147,7 +148,7 @@ module _ (wide : Event → Bool) (passes : Action → Bool) (entries : List Entr
         by false h rest = rest (e ∙ places_no n x inside found.1 h) ∙ sym (last_no n x inside found.1 (wider x.event h))
 
     module _ (places : List ℕ) where
-      -- ---- the walk over the places from their end
+      -- ---- the walk over the indexes from their end
 
       pub all_left : places ≡ places_where wide (reverse (history_of entries)) → AreLeft places (length places)
       all_left is = record {
@@ -197,7 +198,7 @@ module _ (wide : Event → Bool) (passes : Action → Bool) (entries : List Entr
                 none = sym (last_no at x.0 next_within x.1 (did false h)) ∙ ap last_before after ∙ next.none ∙ l.none;
               }
 
-      -- ---- the last of all the places
+      -- ---- the last of all the indexes
 
       module _ (is : places ≡ places_where wide (reverse (history_of entries))) where
         whole : places ≡ places_before (length entries)

@@ -40,9 +40,9 @@ use Rattle.tb_next.specs.Fitting.{Fits}
 use Rattle.tb_next.specs.Plans.{IsPlanOf}
 use Rattle.std.specs.Prelude.{is_none}
 
--- ---- a task stands where the program says
+-- ---- a task is where the program says
 
--- the registers that are kept are those of the definitions
+-- the registers that are stored are those of the definitions
 registers_config : (P : Program) (line : ℕ) (args : List ℤ) (acts : List Action) → registers args acts ≡ (config P line args acts).regs
 registers_config P line args [] = refl
 registers_config P line args (Let r x ∷ acts) = ap (λ regs. set regs r x) (registers_config P line args acts)
@@ -86,7 +86,7 @@ holds_registers P run t =
 
 -- ---- the action that was planned, and the one that is taken
 
--- what doesn't look at a child's name is the same whatever the child's number
+-- what doesn't look at a child's name is the same whatever the child's ordinal
 module _ {B : Type 0} (f : Action → B) (cells : Cells) (t : Name) (n m : ℕ) (regs : List ℤ) (x : ℤ) (alike : (body : ℕ) (args : List ℤ) (items : List Item) (deferred : Bool) → f (Spawn (record { child = child t n; body = body; args = args; items = items; deferred = deferred })) ≡ f (Spawn (record { child = child t m; body = body; args = args; items = items; deferred = deferred }))) where
   spawns_alike : (body : ℕ) (args : List ℤ) (deferred : Bool) (o : Option (List Item)) → f (items_or_fault o (λ is. Spawn (record { child = child t n; body = body; args = args; items = is; deferred = deferred }))) ≡ f (items_or_fault o (λ is. Spawn (record { child = child t m; body = body; args = args; items = is; deferred = deferred })))
   spawns_alike body args deferred None = refl
@@ -106,7 +106,8 @@ module _ {B : Type 0} (f : Action → B) (cells : Cells) (t : Name) (n m : ℕ) 
   numbered_alike (DoTest c) = refl
   numbered_alike DoEnd = refl
 
--- with the number that the load reads, and the child's number, the planned action is the definition's
+-- with the value that the load reads, and the child's ordinal, the planned action is the
+-- definition's
 module _ (cells : Cells) (H : History) (t : Name) where
   abbrev taken : Action → Action
   taken a = completed cells H t a
@@ -163,7 +164,7 @@ module _ (cells : Cells) (H : History) (t : Name) where
   taken_next regs (DoTest c) = refl
   taken_next regs DoEnd = refl
 
-  -- neither number decides where the task stands then
+  -- neither number decides where the task is then
   pub moved_taken : (i : Instr) (c : Place) (a : Action) → (moved i c (taken a)).line ≡ (moved i c a).line
   moved_taken i c Start = refl
   moved_taken i c (Let r x) = refl
@@ -194,7 +195,7 @@ is_plan P run t k p e q i =
       instr = i ∙ ap (λ (c : Config). instr_at P c.at) (sym q);
     }
 
--- the instruction and the registers are those at which the task stands
+-- the instruction and the registers are those at which the task is
 pub plan_instr : (P : Program) (run : Seen) (p : Plan) → Fits P run → IsPlan P run p → instruction p.instr ≡ instr_at P (situation P p.config.task (history run)).line
 plan_instr P run p f i = i.instr ∙ ap (λ (c : Config). instr_at P c.at) i.here ∙ ap (instr_at P) (stands_at P run p.config.task f)
 
@@ -282,7 +283,7 @@ plan_fits P run p f i going n =
       closes = λ here e. (subst (Continues P.cells t (own t H)) (close_only a (sym closes ∙ ap is_close e)) fits).1;
     }
 
--- ---- what keeps the task from the action that was planned
+-- ---- what blocks the planned action of the task
 
 pub known_refusal : (b c : Bool) (o : Option Hindrance) → b ≡ true → c ≡ false → ◌≡◌ {A = Option Refusal} (cond (not b) (Some NoSuchTask) (cond c (Some Ended) (option_map By o))) (option_map By o)
 known_refusal true false o e f = refl
@@ -321,11 +322,11 @@ none_in_way true (Some h) c = cc (c.0 refl)
 none_in_way false None c = absurd (false≢true (c.1 refl))
 none_in_way false (Some h) c = refl
 
--- so a task can step exactly where nothing is in the way of its plan
+-- a task can step exactly where nothing is in the way of its plan
 pub can_by_plan : (P : Program) (run : Seen) (t : Name) (p : Plan) (b : Bool) → Fits P run → IsPlanOf P run t p → (b ≡ true) ↔ (hindrance_of run p ≡ None) → can_step P (history run) t ≡ b
 can_by_plan P run t p b f plan clear = ap is_none (refusal_of_plan P run t p f plan) ∙ none_in_way b (hindrance_of run p) clear
 
--- ---- a task that isn't over stands at a statement
+-- ---- a task that isn't over is at a statement
 
 module _ (P : Program) (f : IsFollowed P) (i : Instr) (c : Place) (t : Name) (n : ℕ) (x : ℤ) where
   -- the step goes on to a line, unless it ends the task
@@ -380,7 +381,7 @@ starts_stands P n f b = f.stands n (at (instr_at P n).statement b)
     at (DoTest c) b = refl
     at DoEnd b = absurd (false≢true b)
 
--- a task's own event moves it on from where it stood
+-- a task's own event moves it on from where it was
 pub own_moves : (P : Program) (t : Name) (v : Event) (H : History) → LegalFor P (v ∷ H) → is_of t v ≡ true → situation P t (v ∷ H) ≡ moved (instr_at P (situation P t H).line) (situation P t H) v.action
 own_moves P t v H l e =
     let not_self : spawns t v ≡ false = not_again P.cells H l.0.0 v l.0.1 t (subst (IsSpawned H) (same_true v.task t e) (may_spawned P.cells H v l.0.0 l.0.1)) in
@@ -419,7 +420,7 @@ stands_somewhere P t H w f l o = at (own t H) refl
         subst (λ acts. IsPosition P (config P (called P t H).line (called P t H).args acts).line) (sym e) (starts_stands P (called P t H).line f begins)
     at (a ∷ acts) e = acted_stands P t H f l (λ z. cc (sym e ∙ z)) o
 
--- a line at which a task can stand is one of the program
+-- a line at which a task can be is one of the program
 pub position_within : (P : Program) (n lines : ℕ) → lines ≡ length P.lines → lines ≤ 65537 → IsPosition P n → n < 65537
 position_within P n lines count few stands = at (nat_lt n 65537) refl
   where

@@ -110,7 +110,7 @@ module _ (H : History) (after : Option Name) (Q : Name → Type 0) (unended : (u
 -- ---- the walk for a seat
 
 module _ (P : Program) (H : History) (claims : Claims) (seat : ℕ) where
-  -- none that the seat can take stands in front of the first that can step, which another seat claims
+  -- none that the seat can take is before the first that can step, which another seat claims
   pub behind_first : (t : Name) → IsFloor P H (Some t) → (IsFreeBeside claims seat t → ⊥) → (u : Name) → CanTake P H claims seat u → IsBehind (Some t) u
   behind_first t floor held u q = by_cmp (name_cmp t u) refl
     where
@@ -133,7 +133,7 @@ module _ (P : Program) (H : History) (claims : Claims) (seat : ℕ) where
     pub found_none : IsLeastName (IsUnendedBehind H (Some after)) None → IsLeastName (CanTake P H claims seat) None
     found_none l = none_has H (Some after) (CanTake P H claims seat) takers untaken l
 
--- a task that can step, by the seat that claims it beside this one
+-- a task that can step, by the seat that claims it next to this one
 pub taken_by : (P : Program) (H : History) (claims : Claims) (seat : ℕ) (t : Name) (b : Bool) (o : Option ℕ) → can_step P H t ≡ true → is_some o ≡ not b → IfSome o (IsHeldBeside claims seat t) → IfNone o (IsFreeBeside claims seat t) → (b ≡ true) ↔ CanTake P H claims seat t
 taken_by P H claims seat t true None can e held free = (λ h. (can, free), λ q. refl)
 taken_by P H claims seat t false None can e held free = absurd (false≢true e)

@@ -1,4 +1,4 @@
--- What keeps a task from its statement, by the statement as it is written.
+-- What blocks a task's statement, by the statement as it is written.
 use Rattle.std.proofs.Common.{◌≡◌, ℕ, suc, List, [], ◌∷◌, ◌&&◌, ◌||◌, ◌==◌, Bool, true, false, not, length, map, refl, sym, ap, ap₂, ◌∙◌, subst, ℤ, IsTrue, Option, Some, None, option_map, arith}
 use Rattle.std.specs.Prelude.{is_none, is_some, IfNone, IfSome, IsSomeAnd}
 use Rattle.std.specs.List.{list_any, list_all}
@@ -147,7 +147,7 @@ module _ (H : History) (t : Name) where
   same_way : (a b : Action) → in_the_way H t a ≡ in_the_way H t b → in_the_way H t a ≡ option_or (in_the_way H t b) None
   same_way a b e = e ∙ or_none (in_the_way H t b)
 
-  -- what keeps t from the action is what keeps it from the statement
+  -- what blocks the action of t is what blocks the statement
   pub way_by : (cells : Cells) (n : ℕ) (regs : List ℤ) (x : ℤ) (s : Statement) → in_the_way H t (action_of cells t n regs x s) ≡ hindrance_at cells H t regs s
   way_by cells n regs x DoStart = same_way Start Start refl
   way_by cells n regs x (DoLet r a) = same_way (Let r (value regs a)) Open refl
@@ -178,7 +178,7 @@ module _ (H : History) (t : Name) where
   way_by cells n regs x (DoTest c) = same_way (Test (is_met regs c)) Open refl
   way_by cells n regs x DoEnd = same_way End Open refl
 
--- so that is why the step of a task that is there and goes on is refused
+-- what blocks the statement is why the step of a task that is there and goes on is refused
 pub refused_by_statement : (P : Program) (run : Seen) (t : Name) (k : Standing) (i : Read) → Fits P run → is_spawned (history run) t ≡ true → has_ended run t ≡ false → config_of run t ≡ config_with t k
     → instruction i ≡ instr_at P k.at → refusal_of P (history run) t ≡ option_map By (hindrance_at P.cells (history run) t k.regs i.statement)
 refused_by_statement P run t k i f there going here instr =
@@ -198,7 +198,7 @@ refused_by_statement P run t k i f there going here instr =
         (sym (holds_registers P run t) ∙ ap (λ (c : Config). c.regs) here)
         (ap (λ n. (instr_at P n).statement) (sym (stands_at P run t f) ∙ ap (λ (c : Config). c.at) here) ∙ ap (λ (j : Instr). j.statement) (sym instr))
 
--- ---- what is told of it
+-- ---- what is said of it
 
 pub kept_first : (o w : Option Hindrance) (run : Seen) (t : Name) (a : Action) (e : StepRefusal) → o ≡ in_the_way (history run) t a → IsKeptBy run t a e → IsNaming (option_or o w) e
 kept_first o w run t a e is k = record {
@@ -238,7 +238,7 @@ module _ (P : Program) (run : Seen) (t : Name) where
   names : (h : Hindrance) (o : Option Refusal) → refusal_of P (history run) t ≡ Some (By h) → o ≡ Some (By h) → IsSomeAnd o (λ told. refusal_of P (history run) t ≡ Some told)
   names h o found told = subst (λ z. IsSomeAnd z (λ r. refusal_of P (history run) t ≡ Some r)) (sym told) found
 
-  -- memory was refused for the statement of a task that something keeps from it
+  -- memory was refused for the statement of a task that something blocks
   pub wanting_kept : (full : Bool) (e : StepRefusal) → IsKeptAt P run t e → IsWanting P run full t e
   wanting_kept full Full k = absurd (none-some (By k.hindrance) k.named)
   wanting_kept full Memory k = (
@@ -254,7 +254,7 @@ module _ (P : Program) (run : Seen) (t : Name) where
   wanting_kept full (HasChildren u) k = names k.hindrance (told_by (HasChildren u)) k.found k.named
   wanting_kept full (HasGroup u) k = names k.hindrance (told_by (HasGroup u)) k.found k.named
 
-  -- and of one that nothing keeps
+  -- and of one that nothing blocks
   pub wanting_clear : refusal_of P (history run) t ≡ None → IsWanting P run false t Memory
   wanting_clear none = (λ can. refl, λ h is. absurd (none-some (By h) (sym none ∙ is)))
 

@@ -6,7 +6,7 @@ use Rattle.tb_model.specs.WellFormed.{WellFormed}
 use Rattle.tb_read.specs.Followed.{IsFollowed}
 use Rattle.tb_core.specs.Seen.{Seen, history}
 
--- the run is one of the program, and stands at its lines
+-- the run is one of the program, and is at its lines
 pub record Fits (P : Program) (run : Seen) : Type 0 where
   pub well_formed : WellFormed P
   pub followed : IsFollowed P

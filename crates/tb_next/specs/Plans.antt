@@ -45,7 +45,7 @@ HasNone run t Ended = IsTrue (is_spawned (history run) t) × IsTrue (has_ended r
 HasNone run t Memory = IsTrue (is_spawned (history run) t) × IsFalse (has_ended run t)
 HasNone run t _ = ⊥
 
--- the refusal tells what keeps a task from its next step by the definitions, a full journal aside
+-- the refusal says what blocks a task's next step by the definitions, a full journal aside
 abbrev pub IsRefusalTo : Program → Seen → Name → StepRefusal → Type 0
 IsRefusalTo P run t e = IsSomeAnd (told_by e) (λ told. refusal_of P (history run) t ≡ Some told)
 
@@ -53,12 +53,13 @@ abbrev pub IsRefusalOf : Program → Seen → Name → Option StepRefusal → Ty
 IsRefusalOf P run t None = refusal_of P (history run) t ≡ None
 IsRefusalOf P run t (Some e) = IsRefusalTo P run t e
 
--- what is told of a refusal
+-- what is said of a refusal
 abbrev pub IsTold : StepRefusal → Option StepRefusal → Type 0
 IsTold e None = e ≡ Full
 IsTold e (Some told) = (told ≡ e) × (e ≢ Full) × (e ≢ Memory)
 
--- it is the plan's action for this task, with the lines at which the task stands and at which it is left, and its steps
+-- what comes is the plan's action for this task, with the lines at which the task is and at which
+-- it is left, and its steps
 pub record IsStepOf (t : Name) (m : Coming) (p : Plan) : Type 0 where
   pub task : p.config.task ≡ t
   pub action : p.action ≡ m.action
@@ -66,20 +67,20 @@ pub record IsStepOf (t : Name) (m : Coming) (p : Plan) : Type 0 where
   pub to : line_behind p.instr p.config p.action ≡ m.to
   pub steps : p.config.steps ≡ m.steps
 
--- it is what the program's plan of the task's next step says
+-- what comes is what the program's plan of the task's next step says
 pub record IsComing (P : Program) (run : Seen) (t : Name) (m : Coming) : Type 0 where
   pub plan : Plan
   pub of_task : IsPlanOf P run t plan
   pub says : IsStepOf t m plan
 
--- it is what a plan for the task's situation says
+-- what comes is what a plan for the task's situation says
 pub record IsNext (run : Seen) (t : Name) (m : Coming) : Type 0 where
   pub plan : Plan
   pub says : IsStepOf t m plan
   pub fits : Fits run plan
   pub current : IsCurrent run plan
 
--- it is what a plan for the task's situation says, and nothing keeps the task from it
+-- what comes is what a plan for the task's situation says, and nothing blocks it
 pub record IsClear (run : Seen) (t : Name) (m : Coming) : Type 0 where
   pub next : IsNext run t m
   pub clear : in_the_way (history run) t m.action ≡ None
@@ -99,7 +100,7 @@ pub record IsSituatedOf (P : Program) (run : Seen) (t : Name) (n : Situated) : T
   pub instr : instruction n.instr ≡ instr_at P n.config.at
   pub cells : n.instr.cells ≡ length P.cells
 
--- that, and the private statements around it
+-- the program's statement for the task's situation, and the private statements around it
 pub record IsWorkOf (P : Program) (run : Seen) (t : Name) (w : Work) : Type 0 where
   pub config : w.config ≡ config_of run t
   pub line : w.instr.line ≡ w.config.at
@@ -160,7 +161,7 @@ pub record IsNative (P : Program) (run : Seen) (p : Plan) : Type 0 where
   pub going : IsFalse (has_ended run p.config.task)
   pub program : IsOfProgram P p.instr
 
--- where the task stands now
+-- where the task is now
 abbrev pub IsStaleAnswer : Seen → Name → StepRefusal → Type 0
 IsStaleAnswer run t (Stale now) = now ≡ config_of run t
 IsStaleAnswer run t Memory = ⊤

@@ -1,5 +1,5 @@
--- What keeps a task from its step, by its statement as it is written: where memory is refused for what the statement
--- evaluates to.
+-- What blocks a task's step, by its statement as it is written: where memory is refused for what
+-- the statement evaluates to.
 use Rattle.std.specs.Prelude.{◌≡◌, List, [], ◌∷◌, ℤ, Bool, false, ◌&&◌, ◌||◌, ◌==◌, length, is_some, Option, Some, None, option_map, IsTrue, IsFalse}
 use Rattle.std.specs.List.{list_any}
 use Rattle.std.specs.Option.{option_or}
@@ -26,7 +26,7 @@ use Rattle.tb_next.specs.Plans.{IsRefusalTo}
 
 -- ---- the clauses of a `taskwait`, one by one
 
--- an item of this kind at the place, where there is one, depends on an earlier item
+-- an item of this kind at the index, where there is one, depends on an earlier item
 abbrev pub follows_at : Option Place → Kind → List Item → Bool
 follows_at None k earlier = false
 follows_at (Some p) k earlier = some_meet is_before (record { kind = k; place = p } ∷ []) earlier
@@ -42,7 +42,7 @@ is_good cells regs c = is_some (place_at cells regs c.address)
 abbrev pub is_named : Cells → History → Name → List ℤ → List Clause → Name → Bool
 is_named cells H t regs clauses u = is_child t u && ((length clauses == 0) || list_any (follows_some cells regs (items_of u H)) clauses)
 
--- ---- what keeps a task from its statement
+-- ---- what blocks a task's statement
 
 -- the least child for which a `taskwait` of t with these items waits; a bad address is a fault, which waits for none
 abbrev pub waited_for : History → Name → Option (List Item) → Option Name
@@ -54,13 +54,13 @@ abbrev pub holding : Cells → History → Name → List ℤ → Statement → O
 holding cells H t regs (DoWait depends) = waited_for H t (items_at cells regs depends)
 holding cells H t regs _ = None
 
--- an action that is kept from its task as the statement's is, but for what a `taskwait` waits for
+-- an action that is blocked for its task as the statement is, but for what a `taskwait` waits for
 abbrev pub stand_in : Statement → Action
 stand_in DoStart = Start
 stand_in DoClose = Close
 stand_in _ = Open
 
--- what keeps t from the statement: what does from its stand-in, and then the child for which it waits
+-- what blocks t's statement: what does from its substitute, and then the child for which it waits
 abbrev pub hindrance_at : Cells → History → Name → List ℤ → Statement → Option Hindrance
 hindrance_at cells H t regs s = option_or (in_the_way H t (stand_in s)) (option_map Children (holding cells H t regs s))
 
@@ -70,13 +70,13 @@ pub record IsNaming (o : Option Hindrance) (e : StepRefusal) : Type 0 where
   pub found : o ≡ Some hindrance
   pub named : IsNamed hindrance e
 
--- so it names what keeps t from its step
+-- the refusal names what blocks t's step
 pub record IsKeptAt (P : Program) (run : Seen) (t : Name) (e : StepRefusal) : Type 0 where
   pub hindrance : Hindrance
   pub found : refusal_of P (history run) t ≡ Some (By hindrance)
   pub named : IsNamed hindrance e
 
--- ---- what is answered then: what keeps a task from its step comes first, and a full journal before want of memory
+-- ---- what is answered then: what blocks a task's step comes first, and a full journal before want of memory
 
 -- of one task
 abbrev pub IsWanting : Program → Seen → Bool → Name → StepRefusal → Type 0

@@ -2,7 +2,7 @@
 
 use crate::work::Work;
 
-/// What a seat is told that asks for work.
+/// What a seat gets that asks for work.
 #[derive(Debug, Drop)]
 pub enum Claim {
     /// The least task that can step and that no other seat claims.

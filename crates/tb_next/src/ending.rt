@@ -1,5 +1,5 @@
-//! The end of what a run is made of. What drops one of these has to show it for each of its tables: so it is shown here once,
-//! beside the crates that a run waits for, and not in `tb_live`.
+//! The end of what a run is made of. What drops one of these has to show it for each of its tables:
+//! so it is shown here once, next to the crates that a run waits for, and not in `tb_live`.
 
 use tb_core::Core;
 use tb_read::Program;

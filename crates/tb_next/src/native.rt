@@ -21,7 +21,7 @@ fn is_of_program(program: &Program, instr: &Instr) -> bool
     }
 }
 
-/// Where the task stands now, which the plan doesn't tell.
+/// Where the task is now, which the plan doesn't say.
 fn stale(core: &Core, task: &TaskName) -> StepRefusal
     requires there { IsTrue (is_spawned (history core.now.run) task.now) }
     ensures { IsStaleAnswer core.now.run task.now result }

@@ -1,4 +1,4 @@
-//! The newest step of a kind, read off the places of the steps that may be of it.
+//! The newest step of a kind, read off the indexes of the steps that may be of it.
 
 ghost use Rattle.std.specs.Prelude.{◌≡◌, ◌<◌, ◌≤◌, IfOk, IfSome, length, reverse};
 ghost use Rattle.tb_model.specs.Facts.{is_print, is_store_to, touches};
@@ -19,8 +19,8 @@ fn is_store_to(action: &Action, cell: u32) -> bool
     }
 }
 
-/// The last store to the cell, where the steps that load from it or store to it stand at these
-/// places.
+/// The last store to the cell, where the steps that load from it or store to it are at these
+/// indexes.
 pub fn newest_store(
     places: &[u32],
     entries: &History<'_>,
@@ -37,7 +37,7 @@ pub fn newest_store(
     }
 }
 
-/// The place of the last store among these: the loads after it are passed over.
+/// The index of the last store among these: the loads after it are passed over.
 fn place_of_store(places: &[u32], entries: &History<'_>, cell: u32) -> Option<usize>
     requires { places.now ≡
         places_where (λ v. touches cell v.action) (reverse (history_of entries.now)) }
@@ -55,7 +55,7 @@ fn place_of_store(places: &[u32], entries: &History<'_>, cell: u32) -> Option<us
     None
 }
 
-/// The last print, where the prints stand at these places.
+/// The last print, where the prints are at these indexes.
 pub fn newest_print(places: &[u32], entries: &History<'_>) -> Result<Option<StepId>, AllocError>
     requires places { places.now ≡
         places_where (λ v. is_print v.action) (reverse (history_of entries.now)) }

@@ -44,7 +44,7 @@ pub fn coming_of(
     }
 }
 
-/// Evaluates the statement at which a task stands that isn't over.
+/// Evaluates the statement at which a task is that isn't over.
 #[inline(always)]
 pub fn coming_at(
     alloc: Global,
@@ -125,7 +125,7 @@ pub fn strip_at(program: &Program, at: u32) -> Strip
     requires { IsPosition program.now at }
     ensures { IsStripOf program.now at result }
 {
-    // for the proof: what the program keeps of its lines
+    // for the proof: what the program retains of its lines
     let _lines = program.line_count();
     strip_around(program, at)
 }

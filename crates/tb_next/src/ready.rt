@@ -46,8 +46,8 @@ fn clear_coming(
     clear_at(alloc, program, core, task, &standing)
 }
 
-/// What a task that goes on does next, where it can. Its standing is given, so that it isn't looked
-/// for.
+/// What a task that goes on does next, where it can. Its situation is given, so that it isn't
+/// looked for.
 #[inline(always)]
 fn clear_at(
     alloc: Global,
@@ -128,7 +128,7 @@ fn told(refusal: StepRefusal) -> Result<Option<StepRefusal>, AllocError>
     }
 }
 
-/// The floor's task with what it does, if there is one and it can step.
+/// The task of the search start with what it does, if there is one and it can step.
 #[inline(always)]
 pub fn known_coming(
     alloc: Global,
@@ -151,8 +151,8 @@ pub fn known_coming(
     }
 }
 
-/// The least task that can step, with what it does; it becomes the floor. The tasks that haven't ended are
-/// asked in the order of their names, from the floor on.
+/// The least task that can step, with what it does; it becomes the search start. The tasks that
+/// haven't ended are asked in the order of their names, from the search start on.
 pub fn least_coming(
     alloc: Global,
     program: &Program,
@@ -171,8 +171,8 @@ pub fn least_coming(
     }
 }
 
-/// The least task that can step, with what it does, where the floor's task, if there is one, can't;
-/// it becomes the floor.
+/// The least task that can step, with what it does, where the task of the search start, if there is
+/// one, can't; it becomes the search start.
 // out of line: a task's step after its own doesn't pay for its stack frame
 #[inline(never)]
 pub fn least_behind(
@@ -229,8 +229,8 @@ fn coming_behind(
     Ok(None)
 }
 
-/// The least task that can step and that no other seat claims. The floor becomes the least that can
-/// step.
+/// The least task that can step and that no other seat claims. The search start becomes the least
+/// that can step.
 pub fn free_task(
     alloc: Global,
     program: &Program,

@@ -6,7 +6,7 @@ ghost use Rattle.tb_next.specs.Statements.{IsCompute, IsTask};
 use tb_model::{Clause, Condition, Operand, Statement};
 use tb_plan::Instr;
 
-/// Whether the instructions stand at one line, say the same and lead to the same lines.
+/// Whether the instructions are at one line, say the same and lead to the same lines.
 pub fn is_same_instr(a: &Instr, b: &Instr) -> bool
     ensures { IsTrue result ↔ (a.now ≡ b.now) }
 {

@@ -1,5 +1,5 @@
-//! Whether a task can step and what keeps it from that, found without memory: where it is refused for what the
-//! task's statement evaluates to.
+//! Whether a task can step and what blocks that, found without memory: where it is refused for what
+//! the task's statement evaluates to.
 
 ghost use Rattle.std.specs.Prelude.{◌≡◌, IfNone, IfSome, IsTrue, IsFalse, None, is_some, option_map};
 ghost use Rattle.std.specs.List.{list_any, list_all};
@@ -18,8 +18,8 @@ use tb_model::{Action, Address, Clause, Item, Operand, Place, Statement, TaskNam
 use tb_read::Program;
 use tb_undo::Standing;
 
-/// Why a task that goes on takes no step where memory was refused for its statement: what keeps it from its step
-/// comes first, then a full journal.
+/// Why a task that goes on executes no step where memory was refused for its statement: what blocks
+/// its step comes first, then a full journal.
 #[inline(never)]
 pub fn wanting(program: &Program, core: &Core, full: bool, task: &TaskName) -> StepRefusal
     requires fits { Fits program.now core.now.run }
@@ -42,7 +42,8 @@ pub fn wanting(program: &Program, core: &Core, full: bool, task: &TaskName) -> S
     }
 }
 
-/// Why no least task that can step is told where memory was refused in the look for it: a full journal comes first.
+/// Why no least task that can step is returned where memory was refused in the look for it: a full
+/// journal comes first.
 #[inline(never)]
 pub fn least_wanting(program: &Program, core: &Core, full: bool) -> StepRefusal
     requires { Fits program.now core.now.run }
@@ -83,7 +84,7 @@ fn can_step(program: &Program, core: &Core, task: &TaskName) -> bool
     kept_from(program, core, task, &standing).is_none()
 }
 
-/// What keeps a task with this standing, which isn't over, from its step, by name.
+/// What blocks the step of a task with this situation, which isn't over, by name.
 fn kept_from(
     program: &Program,
     core: &Core,
@@ -103,7 +104,7 @@ fn kept_from(
     }
 }
 
-/// What keeps a task with this standing from this statement, at which it stands, by name.
+/// What blocks this statement of a task with this situation, at which it is, by name.
 fn kept_by(
     program: &Program,
     core: &Core,
@@ -124,7 +125,7 @@ fn kept_by(
     }
 }
 
-/// What keeps the task from the statement, but for what a `taskwait` waits for.
+/// What blocks the task's statement, but for what a `taskwait` waits for.
 fn kept_in_front(
     core: &Core,
     task: &TaskName,

@@ -39,7 +39,7 @@ nth_older n [] acts h = refl
 nth_older n (a ∷ later) acts h =
     one_older n a (later ++ acts) (omega (arith, h, count_older later acts)) ∙ nth_older n later acts h
 
--- ---- the action that generated a child, by its number
+-- ---- the action that generated a child, by its ordinal
 
 nth_spawn : ℕ → List Action → Option Action
 nth_spawn n [] = None
@@ -138,14 +138,14 @@ module _ (cells : Cells) (A B : History) (la : Legal cells A) (lb : Legal cells 
       items_at cells B n p lb ∙ ap (nth_items n) (r p).1
       ∙ nth_older n (r p).0 (own p A) ((children_numbered cells A p n la).0 s).1 ∙ sym (items_at cells A n p la)
 
-  -- so the same are before it, and apart from it
+  -- so the same are before it
   pub before_too : (u t : Name) → IsSpawned A u → IsSpawned A t → before B u t ≡ before A u t
   before_too [] t su st = refl
   before_too (m ∷ u) [] su st = refl
   before_too (m ∷ u) (n ∷ t) su st =
       ap₂ (λ i j. is_elder (m ∷ u) (n ∷ t) && some_meet is_before i j) (items_too n t st) (items_too m u su)
 
-  -- and the same apart from it
+  -- and the same exclude it
   pub apart_too : (u t : Name) → IsSpawned A u → IsSpawned A t → apart B u t ≡ apart A u t
   apart_too [] [] su st = refl
   apart_too [] (n ∷ t) su st = refl

@@ -1,4 +1,4 @@
--- What a behaviour gives, and what keeps it.
+-- What a behaviour gives, and what retains it.
 use Rattle.std.proofs.Common.{◌≡◌, inl, inr, ℕ, suc, ℤ, List, [], ◌∷◌, ◌++◌, false, cond, refl, sym, ap, ap₂, ◌∙◌, Option, Some, None, map}
 use Rattle.std.specs.List.{list_any}
 use Rattle.std.proofs.lemmas.Bool.{or_parts}
@@ -48,7 +48,7 @@ given_other B g H t x o s = given_same B (g ∷ H) H t x (own_other t g H o) (ap
 pub some_one : {A : Type 0} {a b : A} → Some a ≡ Some b → a ≡ b
 some_one e = cc
 
--- they differ in the number that a load reads, if at all
+-- what a behaviour gives differs in the value that a load reads, if at all
 pub blind_given : {A : Type 0} (f : Action → A) → IsBlind f → (g : ℤ → Option Action) → OnlyReads g → (a b : Action) → g (loaded a) ≡ Some a
     → g (loaded b) ≡ Some b → f a ≡ f b
 blind_given f blind g (inl o) a b p q = ap f (some_one (sym p ∙ o.2 (loaded a) ∙ sym (o.2 (loaded b)) ∙ q))
@@ -57,7 +57,7 @@ blind_given f blind g (inr o) a b p q =
     let m : Load o.0 o.1 (loaded b) ≡ b = some_one (sym (o.2 (loaded b)) ∙ q) in
     ap f (sym l) ∙ blind o.0 o.1 (loaded a) (loaded b) ∙ ap f m
 
--- two actions that are given so are one where both read one number
+-- two actions that are given so are one where both read one value
 pub one_given : (g : ℤ → Option Action) → OnlyReads g → (a b : Action) → g (loaded a) ≡ Some a → g (loaded b) ≡ Some b
     → ((r c : ℕ) (x y : ℤ) → a ≡ Load r c x → b ≡ Load r c y → x ≡ y) → a ≡ b
 one_given g (inl o) a b p q same = some_one (sym p ∙ o.2 (loaded a) ∙ sym (o.2 (loaded b)) ∙ q)
@@ -82,7 +82,7 @@ swap_behave B e f H l n =
       given_other B f H e.task (loaded e.action) not_f (not_again B.cells H l.0.0.0 f mf e.task (may_spawned B.cells H e l.0.0.0 l.0.0.1)) ∙ l.1.0.1,
     )
 
--- changes of places keep them
+-- changes of places retain them
 pub run_of : (B : Behaviour) {G H : History} → IsRunOf B G → Run G H → IsRunOf B H
 run_of B l r = ((run_same B.cells l.0 r).legal, at r l)
   where
@@ -125,7 +125,7 @@ statement_reads cells t n regs DoClose = inl (_, tt, λ x. refl)
 statement_reads cells t n regs (DoTest c) = inl (_, tt, λ x. refl)
 statement_reads cells t n regs DoEnd = inl (_, tt, λ x. refl)
 
--- each task does what stands at its line
+-- each task does what is at its line
 abbrev pub of_program : Program → Behaviour
 of_program P = record {
   cells = P.cells;

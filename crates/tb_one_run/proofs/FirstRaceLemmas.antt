@@ -29,7 +29,7 @@ first_real_of B f e F E l (unordered o v u m front shares both not) free =
       later = later_next B (keep B f F e E m refl not below free) f F e.action shares (conflict_parts f e shares both).1 l keeps;
     }
 
--- so it is of a program
+-- the first race of a program's run is real
 pub first_real : (P : Program) (f e : Event) (F E : History) → LegalFor P (f ∷ F) → IsRace WithExclusion (f ∷ F) (e ∷ E) → (HasRace WithExclusion F → ⊥) → IsReal P (leading WithExclusion (f ∷ F) (e ∷ E) F) e f
 first_real P f e F E l r free =
     let G = leading WithExclusion (f ∷ F) (e ∷ E) F in

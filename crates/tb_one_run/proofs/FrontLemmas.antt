@@ -1,4 +1,4 @@
--- Where no race that isn't apart stands, each direct need is one of the order with exclusion.
+-- Where there is no race that isn't apart, each direct need is one of the order with exclusion.
 use Rattle.std.proofs.Common.{◌≡◌, ◌<◌, [], ◌∷◌, ◌++◌, length, Bool, true, false, cond, ◌⊎◌, inl, inr, ⊎_elim, refl, sym, ap, ◌∙◌, subst, arith, append_assoc, Option, Some, None, option_map, is_some, nat_lt}
 use Rattle.std.specs.List.{list_any}
 use Rattle.std.specs.Option.{option_or}
@@ -50,7 +50,7 @@ counted false false (Some r) e k f h = inr (r, refl)
 counted false false None true k f h = inl (f h)
 counted false false None false k f h = absurd (false≢true h)
 
--- so a direct need is a link of the order with exclusion, or a conflict
+-- a direct need is a link of the order with exclusion, or a conflict
 pub linked_or_conflict : (H : History) (v u : Event) → needs H v u ≡ true → (links WithExclusion H v u ≡ true) ⊎ ((r : Conflict) × (conflict v u ≡ Some r))
 linked_or_conflict H v u h =
     counted (is_of v.task u) (spawns v.task u) (shared v.action u.action) (is_end u.action) (end_kind H v.task v.action u.task) (end_counts H v.task v.action u.task) (kind_some H v u ∙ h)
@@ -77,7 +77,7 @@ module _ (F : History) (free : HasRace WithExclusion F → ⊥) where
             race = unordered WithExclusion x u m U r c (λ a. both_ways (comes_after WithExclusion (step_of U u) (m ++ u ∷ U) x) z ((found_by_pass WithExclusion m x u U).1 a));
           })
 
--- ---- what comes in front of an event stands in front
+-- ---- what comes in front of an event is in front
 
 -- two ends of one list
 ends_of : (a b X Y : History) → a ++ X ≡ b ++ Y → ((m : History) × (X ≡ m ++ Y)) ⊎ ((z : Event) × (m : History) × (Y ≡ z ∷ (m ++ X)))
@@ -105,7 +105,7 @@ pub not_itself : (o : Order) (e : Event) (E : History) → is_in_front o (e ∷ 
 not_itself o e E = false_from_ne_true (is_in_front o (e ∷ E) (e ∷ E)) (λ h. omega (arith, reached o E e e E h))
 
 module _ (o : Order) (e : Event) (a E b : History) (x : Event) (X : History) (same : a ++ E ≡ b ++ x ∷ X) where
-  -- by the pass and by the relation, at places of one history
+  -- by the pass and by the relation, at indexes of one history
   pub front_after : is_in_front o (e ∷ E) (x ∷ X) ≡ true → ComesAfter o (e ∷ E) (x ∷ X)
   front_after h =
       ⊎_elim (λ p. subst (λ G. ComesAfter o (e ∷ G) (x ∷ X)) (sym p.1) ((found_by_pass o p.0 e x X).0 (subst (λ G. comes_after o (step_of X x) G e ≡ true) p.1 h)))

@@ -1,4 +1,5 @@
--- A program that isn't well-formed, by computation: a task that can't go on keeps another from starting in one run alone.
+-- A program that isn't well-formed, by computation: a task that can't go on blocks another's start
+-- in one run alone.
 use Rattle.std.proofs.Common.{◌≡◌, ◌≤◌, List, [], ◌∷◌, ◌++◌, length, Bool, true, false, cond, ◌||◌, ⊎_elim, refl, sym, ap, ◌∙◌, subst, None, ℕ, ℤ, arith}
 use Rattle.std.proofs.lemmas.Bool.{and_parts, both_ways, false≢true, or_cases}
 use Rattle.tb_model.specs.declared.kind.Kind.TheVariants.{Mutexinoutset}

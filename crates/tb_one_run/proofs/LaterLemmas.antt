@@ -27,9 +27,9 @@ use Rattle.tb_one_run.proofs.BehaviourLemmas.{some_one, given_stays}
 use Rattle.tb_one_run.proofs.PassingLemmas.{failing, passing_parts, none_failing}
 use Rattle.tb_one_run.proofs.FrontLemmas.{end_counts}
 
--- ---- an action with another number
+-- ---- an action with another value
 
--- what is given with another number says that number
+-- what is given with another value says that value
 given_with : (g : ℤ → Option Action) → OnlyReads g → (a : Action) (x : ℤ) → g (loaded a) ≡ Some a → g (loaded (with_number x a)) ≡ Some (with_number x a)
 given_with g (inl o) a x p = o.2 (loaded (with_number x a)) ∙ sym (o.2 (loaded a)) ∙ p ∙ ap Some (kept a (subst IsNoLoad (sym (o.2 (loaded a)) ∙ p) o.1))
   where
@@ -51,7 +51,7 @@ given_with g (inr o) a x p =
     let m : with_number x a ≡ Load o.0 o.1 x = ap (with_number x) l in
     o.2 (loaded (with_number x a)) ∙ ap (λ y. Some (Load o.0 o.1 y)) (ap loaded m) ∙ ap Some (sym m)
 
--- ---- what keeps a task from no action but its own past links
+-- ---- an action that waits for nothing but past links of its own task
 
 abbrev quiet : Name → Event
 quiet t = record { task = t; action = Open }
@@ -123,7 +123,7 @@ under_way cells t acts (Test y) b r s h = cc
 under_way cells t acts End b r s h = cc
 under_way cells t acts Fault b r s h = cc
 
--- a task under way may go on with what shares a cell or the output, where nothing keeps it
+-- a task under way may go on with what shares a cell or the output, where nothing blocks it
 may_go_on : (cells : Cells) (G : History) (t : Name) (a b : Action) (r : Conflict) → shared a b ≡ Some r → Continues cells t (own t G) a → MayFollow cells G (quiet t) → MayFollow cells G (record { task = t; action = with_number (number_read cells G a) a })
 may_go_on cells G t (Store c x) b r s h m = record { own = h; resumed = m.resumed; timely = tt }
 may_go_on cells G t (Load k c x) b r s h m = record { own = h; resumed = m.resumed; timely = refl }
@@ -159,7 +159,7 @@ module _ (B : Behaviour) (p : History → Bool) (f : Event) (F : History) (b : A
       follows_stays B.cells F G (failing p F) s (quiet f.task) none
       (record { own = under_way B.cells f.task (own f.task F) f.action b r shares l.0.1.own; resumed = l.0.1.resumed; timely = tt })
 
-  -- so it is next, with the number that its cell has there
+  -- so it is next, with the value that its cell has there
   pub later_next : IsNextOf B G (as_read_at B.cells G f)
   later_next = record {
     may =

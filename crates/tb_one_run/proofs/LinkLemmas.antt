@@ -19,7 +19,7 @@ use Rattle.tb_one_run.specs.Outcomes.{HasRace}
 
 -- ---- what a synchronised link is
 
--- the action, of t and behind H, waits for the end of u, whatever exclusion says
+-- the action, of t and after H, waits for the end of u, whatever exclusion says
 abbrev pub awaits : History → Name → Action → Name → Bool
 awaits H t Start u = before H u t
 awaits H t (Wait items) u = covers H t items u
@@ -65,7 +65,7 @@ abbrev pub IsClosed : Order → (History → Bool) → History → Type 0
 IsClosed o keep H =
     (b : History) (x : Event) (X : History) → H ≡ b ++ x ∷ X → keep (x ∷ X) ≡ true → (m : History) (u : Event) (F : History) → X ≡ m ++ u ∷ F → links o X x u ≡ true → keep (u ∷ F) ≡ true
 
--- what comes in front stands in front
+-- what comes in front is in front
 pub stands_before : {o : Order} {F G : History} → ComesAfter o F G → (m : History) × (F ≡ m ++ G)
 stands_before (directly o v u between front h) = (v ∷ between, refl)
 stands_before (by_way {G = G} {H = H} f g) =
@@ -117,7 +117,7 @@ shares_output Fault b h = absurd (false≢true h)
 abbrev pub clash : Action → Action → Bool
 clash a b = conflicts a b || (is_print a && is_print b)
 
--- so they conflict
+-- actions that clash share something
 pub clash_shares : (a b : Action) → clash a b ≡ true → (r : Conflict) × (shared a b ≡ Some r)
 clash_shares a b h = ⊎_elim (λ c. shares_cell a b c) (λ c. shares_output a b c) (or_cases (conflicts a b) (is_print a && is_print b) h)
 

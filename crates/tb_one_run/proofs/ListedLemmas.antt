@@ -30,13 +30,13 @@ more_some : (k : Option NeedKind) → counts_some Synchronised k ≡ true → co
 more_some None h = h
 more_some (Some k) h = more_counts k h
 
--- so what is synchronised is in order with exclusion
+-- what is synchronised is in order with exclusion
 pub more_order : {F G : History} → ComesAfter Synchronised F G → ComesAfter WithExclusion F G
 more_order (directly o v u between front h) =
     directly WithExclusion v u between front (more_some (need_kind (between ++ u ∷ front) v u) h)
 more_order (by_way f g) = by_way (more_order f) (more_order g)
 
--- so a race that it leaves is one
+-- a race that the order with exclusion leaves is one
 pub less_race : {F G : History} → IsRace WithExclusion F G → IsRace Synchronised F G
 less_race (unordered o v u between front shares both not) =
     unordered Synchronised v u between front shares both (λ a. not (more_order a))
@@ -52,7 +52,7 @@ pub contested_some : (t : Bool) (s r : Option Conflict) → r ≡ cond t None s 
 contested_some true s r e c h = absurd (let z : None ≡ Some c = sym e ∙ h in cc)
 contested_some false s r e c h = (refl, sym e ∙ h)
 
--- v, behind H, races with an event of K, or none is named
+-- v, after H, races with an event of K, or none is named
 pub named : (o : Order) (H : History) (v : Event) (m K : History) → H ≡ m ++ K → (newest_race o H v K ≡ None) ⊎ ((G : History) × IsRace o (v ∷ H) G)
 named o H v m [] e = inl refl
 named o H v m (u ∷ K) e = at (contested o H v K u) refl (named o H v (m ++ u ∷ []) K (e ∙ sym (append_assoc m (u ∷ []) K)))
@@ -83,7 +83,7 @@ abbrev NamesNone : Order → History → Type 0
 NamesNone o [] = Unit {0}
 NamesNone o (v ∷ H) = newest_race o H v H ≡ None
 
--- so it has no race
+-- an event of which none is named has no race
 pub none_races : {o : Order} {F G : History} → IsRace o F G → NamesNone o F → ⊥
 none_races (unordered o v u between front shares both not) h = at (comes_after o (step_of front u) (between ++ u ∷ front) v) refl
   where
@@ -121,13 +121,13 @@ abbrev pub AllNameNone : Order → History → Type 0
 AllNameNone o [] = Unit {0}
 AllNameNone o (v ∷ H) = AllNameNone o H × (newest_race o H v H ≡ None)
 
--- so there is no race
+-- where none is named of any event there is no race
 pub unraced : (o : Order) (H : History) → AllNameNone o H → HasRace o H → ⊥
 unraced o [] n r = none_in_none o r
 unraced o (v ∷ H) n r =
     ⊎_elim (λ e. none_races (subst (λ F. IsRace o F r.earlier) e r.race) n.1) (λ d. unraced o H n.0 d) (race_down o v H r.newer r.later r.earlier r.split r.race)
 
--- it is decided, and none is listed exactly where there is none
+-- whether there is a race is decided, and none is listed exactly where there is none
 pub decided : (H : History) → (HasRace Synchronised H × (races H ≡ [] → ⊥)) ⊎ ((HasRace Synchronised H → ⊥) × (races H ≡ []))
 decided [] = inr (none_in_none Synchronised, refl)
 decided (v ∷ H) = at (decided H) (named WithExclusion H v [] H refl) (named Synchronised H v [] H refl)

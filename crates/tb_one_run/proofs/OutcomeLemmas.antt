@@ -26,7 +26,7 @@ use Rattle.tb_one_run.proofs.PlaceLemmas.{reaches, complete, parent_spawned}
 use Rattle.tb_one_run.proofs.WalkLemmas.{Walked}
 use Rattle.tb_one_run.proofs.StepLemmas.{walked_at}
 
--- nothing stands in the empty history
+-- nothing is in the empty history
 none_there : (H : History) → part [] H ≡ []
 none_there [] = refl
 none_there (x ∷ H) =
@@ -84,7 +84,7 @@ module _ (B : Behaviour) (H : History) (lh : IsRunOf B H) (done : IsOver H) (fre
         child_back B.cells K H lk.0 lh.0 (reaches B.cells H K lh.0 lk.0 alike_part) p (k ∷ p)
         (complete B.cells H K lh.0 lk.0 alike_part p e) (same_refl p) s
 
-    -- so all stands in K
+    -- so all is in K
     all_there : (b F : History) → H ≡ b ++ F → part K F ≡ F
     all_there b [] e = refl
     all_there b (x ∷ F) e =

@@ -15,12 +15,12 @@ use Rattle.tb_one_run.specs.Behaviours.{Behaviour, IsRunOf, IsNextOf}
 use Rattle.tb_one_run.proofs.BehaviourLemmas.{given_stays}
 use Rattle.tb_one_run.proofs.SharedLemmas.{one_more}
 
--- those that don't
+-- the events that don't pass
 abbrev pub failing : (History → Bool) → History → History
 failing p [] = []
 failing p (v ∷ H) = prepend_if (not (p (v ∷ H))) v (failing p H)
 
--- those of the later part of a history that pass
+-- the events of the later part of a history that pass
 abbrev pub late_passing : (History → Bool) → History → History → History
 late_passing p [] front = []
 late_passing p (v ∷ b) front = prepend_if (p (v ∷ (b ++ front))) v (late_passing p b front)
@@ -50,7 +50,7 @@ none_failing p q m (u ∷ H) X e f =
     at true h rest = rest
     at false h rest = ap₂ (λ a b. a || b) (false_from_ne_true (q u) (λ z. both_ways (p (u ∷ H)) h (f m u H e z))) rest
 
--- so an event that needs none of those that go is next after those that stay
+-- an event that needs none of those that go is next after those that stay
 pub next_stays : (B : Behaviour) {H K R : History} → Parts H K R → (v : Event) → list_any (needs H v) R ≡ false → IsNextOf B H v → IsNextOf B K v
 next_stays B {H} {K} {R} s v n i = record {
   may = follows_stays B.cells H K R s v n i.may;

@@ -1,4 +1,4 @@
--- The event of one history that the next event of another stands for.
+-- The event of one history that the next event of another means.
 use Rattle.std.proofs.Common.{◌≡◌, ℕ, [], ◌∷◌, ◌++◌, length, Bool, true, false, ⊎_elim, refl, sym, ap, ◌∙◌, subst, arith, nat_lt, append_assoc}
 use Rattle.std.proofs.lemmas.Bool.{and_parts, false≢true, ltb-true, ltb-false}
 use Rattle.tb_model.specs.declared.action.Action.{Action}

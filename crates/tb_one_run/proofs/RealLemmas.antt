@@ -50,11 +50,11 @@ module _ (B : Behaviour) (f : Event) (F : History) (e : Event) (E m : History) (
   keeps : KeepsNeeds keep F
   keeps b x X q h k u U r n = kept u U (further (x ∷ X) (u ∷ U) (comes b x X q h) (after_needs b x X q k u U r n))
 
-  -- what is kept is a run
+  -- what is retained is a run
   pub kept_run : IsRunOf B (passing keep F)
   kept_run = passing_legal B keep F keeps l
 
-  -- neither of the two is kept
+  -- neither of the two is retained
   not_kept : keep (e ∷ E) ≡ false
   not_kept = false_from_ne_true (keep (e ∷ E)) (λ h.
       ⊎_elim (λ a. unordered (front_after WithExclusion f [] F m e E at_e a)) (λ a. both_ways (is_in_front WithExclusion (e ∷ E) (e ∷ E)) (not_itself WithExclusion e E) a)
@@ -69,7 +69,7 @@ module _ (B : Behaviour) (f : Event) (F : History) (e : Event) (E m : History) (
   abbrev keep_e : History → Bool
   keep_e X = keep X || is_e X
 
-  -- the one place of the step
+  -- the one index of the step
   that_place : (b : History) (x : Event) (X : History) → F ≡ b ++ x ∷ X → is_e (x ∷ X) ≡ true → (X ≡ E) × (x ≡ e)
   that_place b x X q h =
       let o = and_parts (is_of e.task x) (suc (length (own e.task E)) == suc (length (own e.task X))) h in
@@ -89,7 +89,7 @@ module _ (B : Behaviour) (f : Event) (F : History) (e : Event) (E m : History) (
   or_no true b h = refl
   or_no false b h = h
 
-  -- elsewhere the two tests are one
+  -- else the two tests are one
   late_same : (b : History) → late_passing keep_e b (e ∷ E) ≡ late_passing keep b (e ∷ E)
   late_same [] = refl
   late_same (x ∷ b) =
@@ -121,7 +121,7 @@ module _ (B : Behaviour) (f : Event) (F : History) (e : Event) (E m : History) (
   run_with_e =
       subst (IsRunOf B) (ap (passing keep_e) at_e ∙ with_e m) (passing_legal B keep_e F keeps_e l)
 
-  -- nothing that is kept needs it
+  -- nothing that is retained needs it
   needs_not : (b0 b : History) (w : Event) → F ≡ b0 ++ (w ∷ (b ++ e ∷ E)) → keep (w ∷ (b ++ e ∷ E)) ≡ true → needs (later b ++ e ∷ front) w e ≡ false
   needs_not b0 b w q h = false_from_ne_true (needs (later b ++ e ∷ front) w e) (λ n.
       let W = b ++ e ∷ E in

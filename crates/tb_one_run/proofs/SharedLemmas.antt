@@ -1,4 +1,4 @@
--- The part of one history whose steps stand in another.
+-- The part of one history whose steps are in another.
 use Rattle.std.proofs.Common.{◌≡◌, ◌≤◌, ◌<◌, ℕ, suc, List, [], ◌∷◌, ◌++◌, length, Bool, true, false, ◌&&◌, not, ◌⊎◌, inl, inr, refl, sym, ap, ap₂, ◌∙◌, subst, arith, nat_lt, eqb-true, eq-eqb, append_assoc, length-append, ◌==◌}
 use Rattle.std.specs.List.{AllByRecursion}
 use Rattle.std.proofs.lemmas.Bool.{both_ways, ltb-true, lt-ltb, le-ltb, ltb-false}
@@ -16,7 +16,7 @@ use Rattle.tb_model.proofs.RemovalLemmas.{own_grows}
 use Rattle.tb_model.proofs.AlikeLemmas.{alike_refl, alike_trans, alike_cons}
 use Rattle.tb_model.proofs.NeighboursLemmas.{swap_alike, same_sym}
 
--- the newest event of F is a step of K, by its number
+-- the newest event of F is a step of K, by its ordinal
 abbrev pub has : History → History → Bool
 has K [] = false
 has K (v ∷ F) = nat_lt (length (own v.task F)) (length (own v.task K))
@@ -26,12 +26,12 @@ abbrev pub part : History → History → History
 part K [] = []
 part K (v ∷ F) = prepend_if (has K (v ∷ F)) v (part K F)
 
--- those that aren't
+-- the events that the other history hasn't
 abbrev pub gone : History → History → History
 gone K [] = []
 gone K (v ∷ F) = prepend_if (not (has K (v ∷ F))) v (gone K F)
 
--- those of the later part of a history that the other history has
+-- the events of the later part of a history that the other history has
 abbrev pub late : History → History → History → History
 late K [] front = []
 late K (v ∷ b) front = prepend_if (has K (v ∷ (b ++ front))) v (late K b front)
@@ -69,7 +69,7 @@ own_put t false v G o = refl
 own_put_mine : (t : Name) (c : Bool) (v : Event) (G : History) → c ≡ true → is_of t v ≡ true → own t (prepend_if c v G) ≡ v.action ∷ own t G
 own_put_mine t c v G e o = ap (λ d. own t (prepend_if d v G)) e ∙ own_mine t v G o
 
--- what stands in front of the reach of K stays
+-- what is before the reach of K stays
 pub own_front : (K : History) (t : Name) (F : History) → length (own t F) ≤ length (own t K) → own t (part K F) ≡ own t F
 own_front K t [] h = refl
 own_front K t (v ∷ F) h = at (is_of t v) refl (own_front K t F)
@@ -106,7 +106,7 @@ Older acts all = (later : List Action) × (all ≡ later ++ acts)
 older_mine : (a : Action) {acts all : List Action} → Older acts all → Older acts (a ∷ all)
 older_mine a o = (a ∷ o.0, ap (λ xs. a ∷ xs) o.1)
 
--- of each task, what stands in K is the older part
+-- of each task, what is in K is the older part
 pub own_older : (K : History) (t : Name) (F : History) → Older (own t (part K F)) (own t F)
 own_older K t [] = ([], refl)
 own_older K t (v ∷ F) = at (is_of t v) (has K (v ∷ F)) refl refl (own_older K t F)
@@ -118,7 +118,7 @@ own_older K t (v ∷ F) = at (is_of t v) (has K (v ∷ F)) refl refl (own_older 
     at true false o h rest = older_mine v.action rest
     at false d o h rest = subst (λ acts. Older acts (own t F)) (sym (own_put t d v (part K F) o)) rest
 
--- of each task, what stands in front is the older part
+-- of each task, what is in front is the older part
 pub older_front : (t : Name) (b F : History) → Older (own t F) (own t (b ++ F))
 older_front t [] F = ([], refl)
 older_front t (v ∷ b) F = at (is_of t v) (older_front t b F)
@@ -149,7 +149,7 @@ older_same {a} {b} all o p n = at o.0 p.0 (sym o.1 ∙ p.1)
     at (z ∷ x) [] e = absurd (omega (arith, n, sym (ap length e) ∙ length-append (z ∷ x) a))
     at (z ∷ x) (k ∷ y) e = at x y (cc)
 
--- ---- the place of a step
+-- ---- the index of a step
 
 -- the event of t in front of which t has n
 pub record Place (H : History) (t : Name) (n : ℕ) : Type 0 where
@@ -160,7 +160,7 @@ pub record Place (H : History) (t : Name) (n : ℕ) : Type 0 where
   pub mine : is_of t event ≡ true
   pub number : length (own t front) ≡ n
 
--- each number that was reached has its place
+-- each ordinal that was reached has its index
 pub place : (t : Name) (n : ℕ) (H : History) → n < length (own t H) → Place H t n
 place t n [] h = absurd (omega (arith, h))
 place t n (v ∷ H) h = at (is_of t v) (nat_lt n (length (own t H))) refl refl (place t n H)
@@ -182,7 +182,7 @@ place t n (v ∷ H) h = at (is_of t v) (nat_lt n (length (own t H))) refl refl (
 
 -- ---- an event moves to the end
 
--- w may change places with x, which stands after it
+-- w may change places with x, which is after it
 pub record Changes (w x : Event) : Type 0 where
   pub other : is_of w.task x ≡ false
   pub cell : conflicts x.action w.action ≡ false
@@ -211,7 +211,7 @@ module _ (K : History) (v : Event) where
   longer : length (own v.task (v ∷ K)) ≡ suc reach
   longer = ap length (own_mine v.task v K (same_refl v.task))
 
-  -- only the place of the new step changes
+  -- only the index of the new step changes
   pub has_same : (x : Event) (X : History) → (is_of v.task x ≡ true → length (own v.task X) ≡ reach → ⊥) → has (v ∷ K) (x ∷ X) ≡ has K (x ∷ X)
   has_same x X d = at (is_of v.task x) refl
     where
@@ -221,7 +221,7 @@ module _ (K : History) (v : Event) where
           ∙ reach_same (length (own v.task X)) reach (d o) ∙ sym (has_mine K v.task x X o)
       at false o = ap (λ acts. nat_lt (length (own x.task X)) (length acts)) (own_other x.task v K (same_sym x.task v.task o))
 
-  -- the place itself
+  -- the index itself
   pub has_now : (x : Event) (X : History) → is_of v.task x ≡ true → length (own v.task X) ≤ reach → has (v ∷ K) (x ∷ X) ≡ true
   has_now x X o n = has_mine (v ∷ K) v.task x X o ∙ lt-ltb (length (own v.task X)) (length (own v.task (v ∷ K))) (omega (arith, longer, n))
 
@@ -242,7 +242,7 @@ module _ (K : History) (v : Event) where
       at true o = has_now x X o (omega (arith, ltb-true (length (own v.task X)) reach (sym (has_mine K v.task x X o) ∙ h)))
       at false o = has_same x X (λ p q. both_ways (is_of v.task x) o p) ∙ h
 
-  -- in front of the place the part is the same
+  -- in front of the index the part is the same
   pub part_same : (F : History) → length (own v.task F) ≤ reach → part (v ∷ K) F ≡ part K F
   part_same [] h = refl
   part_same (x ∷ F) h =

@@ -43,7 +43,7 @@ module _ (B : Behaviour) (H K : History) (lh : IsRunOf B H) (lk : IsRunOf B K) (
     abbrev legal_from : (b0 c : History) → H ≡ b0 ++ (c ++ w ∷ X) → Legal B.cells (c ++ w ∷ X)
     legal_from b0 c e = legal_below B.cells b0 (c ++ w ∷ X) (subst (Legal B.cells) e lh.0)
 
-    -- what stands in K after it may change places with it
+    -- what is in K after it may change places with it
     changes : (b0 c : History) (x : Event) → H ≡ b0 ++ (x ∷ (c ++ w ∷ X)) → has K (x ∷ (c ++ w ∷ X)) ≡ true → Changes w x
     changes b0 c x e h = record {
       other = other;
@@ -73,7 +73,7 @@ module _ (B : Behaviour) (H K : History) (lh : IsRunOf B H) (lk : IsRunOf B K) (
         at true h rest = (changes b0 c x e h, rest)
         at false h rest = rest
 
-    -- ---- the number that is read
+    -- ---- the value that is read
 
     module _ (r c : ℕ) (y : ℤ) (is_load : w.action ≡ Load r c y) where
       -- of two conflicting actions the one is the event's
@@ -87,7 +87,7 @@ module _ (B : Behaviour) (H K : History) (lh : IsRunOf B H) (lk : IsRunOf B K) (
       none_after [] h = refl
       none_after (x ∷ L) h = ap₂ (λ p q. p || q) (conflict_load x.action r c y (sym (like_after x.action) ∙ h.0.cell)) (none_after L h.1)
 
-      -- who stores to the cell in front of the event stands in K
+      -- who stores to the cell in front of the event is in K
       stands : (m : History) (u : Event) (F : History) → X ≡ m ++ u ∷ F → stores_to c u ≡ true → has K (u ∷ F) ≡ true
       stands m u F e q = at (is_of v.task u) refl
         where

@@ -99,9 +99,9 @@ conflict_parts v u r h = at (is_of v.task u) refl
     at true o = absurd (let z : None ≡ Some r = sym (ap (λ p. cond p None (shared v.action u.action)) o) ∙ h in cc)
     at false o = (o, sym (ap (λ p. cond p None (shared v.action u.action)) o) ∙ h)
 
--- ---- two places of one list
+-- ---- two indexes of one list
 
--- two places of one list are one, or one stands in front of the other
+-- two indexes of one list are one, or one is before the other
 pub places : (a b : History) (x y : Event) (F G : History) → a ++ x ∷ F ≡ b ++ y ∷ G → (x ≡ y) ⊎ (((m : History) × (F ≡ m ++ y ∷ G)) ⊎ ((m : History) × (G ≡ m ++ x ∷ F)))
 places [] [] x y F G e = inl (cc)
 places [] (z ∷ b) x y F G e = inr (inl (b, cc))
@@ -139,7 +139,7 @@ module _ (B : Behaviour) (H : History) (lh : IsRunOf B H) (done : IsOver H) (fre
     u_at : H ≡ (b ++ y ∷ m) ++ u ∷ U
     u_at = e ∙ ap (λ G. b ++ y ∷ G) f ∙ sym (append_assoc b (y ∷ m) (u ∷ U))
 
-    -- it stands in front of y in K too
+    -- it is before y in K too
     u_stands : length (own u.task U) < length (own u.task (y ∷ Y'))
     u_stands =
         let s = walked B H lh done free (y ∷ Y') (legal_k c (y ∷ Y') g) in
@@ -174,7 +174,7 @@ module _ (B : Behaviour) (H : History) (lh : IsRunOf B H) (done : IsOver H) (fre
 
   -- ---- and so is the order
 
-  -- F' is the place in K of the newest event of F
+  -- F' is the index in K of the newest event of F
   abbrev Stands : History → History → Type 0
   Stands [] F' = ⊥
   Stands (y ∷ Y) F' =
@@ -213,7 +213,7 @@ module _ (B : Behaviour) (H : History) (lh : IsRunOf B H) (done : IsOver H) (fre
     in_h d x X q =
         twin K H reach_back d x X q (omega (arith, ap length (acts x.task), ap (λ G. length (own x.task G)) q, own_longer x.task d (x ∷ X), ap length (own_mine x.task x X (same_refl x.task))))
 
-    -- the earlier stands in front in H too, and H orders them
+    -- the earlier is in front in H too, and H orders them
     in_order : (b V d U : History) → H ≡ b ++ v ∷ V → length (own v.task V) ≡ length (own v.task (between ++ u ∷ front)) → H ≡ d ++ u ∷ U → length (own u.task U) ≡ length (own u.task front) → (m : History) → V ≡ m ++ u ∷ U → (ComesAfter Synchronised (v ∷ (between ++ u ∷ front)) (u ∷ front) → ⊥) → ⊥
     in_order b V d U e n f k m q not =
         free (record {
@@ -228,7 +228,7 @@ module _ (B : Behaviour) (H : History) (lh : IsRunOf B H) (done : IsOver H) (fre
               not (subst (ComesAfter Synchronised (v ∷ (between ++ u ∷ front))) (s.2 ∙ ap (λ G. u ∷ G) one) r.2));
         })
 
-    -- the later doesn't stand in front in H
+    -- the later isn't in front in H
     not_turned : (b V d U : History) → H ≡ b ++ v ∷ V → length (own v.task V) ≡ length (own v.task (between ++ u ∷ front)) → H ≡ d ++ u ∷ U → length (own u.task U) ≡ length (own u.task front) → (m : History) → U ≡ m ++ v ∷ V → ⊥
     not_turned b V d U e n f k m q =
         let s = walked B H lh done free (u ∷ front) (legal_k (c ++ v ∷ between) (u ∷ front) at_u) in
@@ -254,6 +254,6 @@ module _ (B : Behaviour) (H : History) (lh : IsRunOf B H) (done : IsOver H) (fre
   pub no_race : HasRace Synchronised K → ⊥
   no_race r = not_one r.race r.newer r.split
 
--- so both have one or neither has
+-- of two runs that are over both have a race or neither has
 pub all_or_none : (B : Behaviour) (H K : History) → IsRunOf B H → IsOver H → IsRunOf B K → IsOver K → HasRace Synchronised H ↔ HasRace Synchronised K
 all_or_none B H K l d m e = (passed_back H K (λ f. no_race B K m e f H l d), passed_back K H (λ f. no_race B H l d f K m e))

@@ -1,4 +1,4 @@
--- Two runs in which each task does the same: each step of the one stands in the other.
+-- Two runs in which each task does the same: each step of the one is in the other.
 use Rattle.std.proofs.Common.{◌≡◌, ◌≤◌, ◌<◌, ℕ, suc, List, [], ◌∷◌, ◌++◌, length, true, cond, refl, sym, ap, ap₂, ◌∙◌, subst, arith, Some, None, option_map}
 use Rattle.std.specs.Option.{option_or}
 use Rattle.tb_model.specs.declared.action.Action.{Action}
@@ -35,7 +35,7 @@ module _ (cells : Cells) (H A B : History) (lh : Legal cells H) (la : Legal cell
 
 -- ---- the step of an event in another history
 
--- the event stands in C, with so many of its task in front of it
+-- the event is in C, with so many of its task in front of it
 pub record Twin (C : History) (y : Event) (n : ℕ) : Type 0 where
   pub later : History
   pub front : History
@@ -65,7 +65,7 @@ twin H C r b y Y e l =
       number = p.number;
     }
 
--- one place has the number
+-- one index has the ordinal
 pub one_place : (C : History) (b c : History) (x y : Event) (X Y : History) → C ≡ b ++ x ∷ X → C ≡ c ++ y ∷ Y → x.task ≡ y.task → length (own x.task X) ≡ length (own x.task Y) → (X ≡ Y) × (x ≡ y)
 one_place C b c x y X Y e f t n = at b c (sym e ∙ f)
   where

@@ -1,5 +1,5 @@
--- A walk over any run K of a behaviour, beside a finished run H without a race: what stands in K says of every task, cell and
--- output what H says of it.
+-- A walk over any run K of a behaviour, next to a finished run H without a race: what is in K says
+-- of every task, cell and output what H says of it.
 use Rattle.std.proofs.Common.{◌≡◌, ℕ, ℤ, [], ◌∷◌, ◌++◌, length, true, ◌⊎◌, inl, inr, ⊎_elim, refl, sym, ap, ◌∙◌, subst, arith, append_assoc, Option, Some}
 use Rattle.std.specs.List.{list_any}
 use Rattle.std.proofs.lemmas.Bool.{and_from}
@@ -41,7 +41,7 @@ module _ (B : Behaviour) (H K : History) (lh : IsRunOf B H) (lk : IsRunOf B K) (
   abbrev spawned_k : IsSpawned K t
   spawned_k = may_spawned B.cells K v lk.0 nk.may
 
-  -- the next event of the task in H, which stands there with X in front of it
+  -- the next event of the task in H, which is there with X in front of it
   module _ (b : History) (w : Event) (X : History) (split : H ≡ b ++ w ∷ X) (mine : is_of t w ≡ true) (number : length (own t X) ≡ n) where
     abbrev pub lx : IsRunOf B (w ∷ X)
     lx = run_below B b (w ∷ X) (subst (IsRunOf B) split lh)
@@ -65,12 +65,12 @@ module _ (B : Behaviour) (H K : History) (lh : IsRunOf B H) (lk : IsRunOf B K) (
     pub w_given : gives (loaded w.action) ≡ Some w.action
     w_given = sym (same_given (loaded w.action)) ∙ ap (λ u. given B X u (loaded w.action)) (sym same_task) ∙ lx.1.1
 
-    -- so the two differ in the number that a load reads, if at all
+    -- so the two differ in the value that a load reads, if at all
     same_but_number : {A : Type 0} (f : Action → A) → IsBlind f → f w.action ≡ f v.action
     same_but_number f blind =
         blind_given f blind gives (B.reads (called_by B.root_line (spawn_of t K)) t (own t K)) w.action v.action w_given nk.behaves
 
-    -- what a link leads to stands in K
+    -- what a link leads to is in K
     pub link_stands : (m : History) (u : Event) (F : History) → X ≡ m ++ u ∷ F → links Synchronised X w u ≡ true → has (v ∷ K) (u ∷ F) ≡ true
     link_stands m u F e h =
         ⊎_elim own_event (λ a. ⊎_elim (λ q. has_still K v u F (its_spawn q)) (λ q. has_still K v u F (its_end q)) a) (linked X w u h)

@@ -15,12 +15,14 @@ abbrev pub IsNoLoad : Option Action → Type 0
 IsNoLoad (Some (Load r c x)) = ⊥
 IsNoLoad _ = ⊤
 
--- whatever number a load would read: one and the same action, which is no load, or none; or a load of one cell into one register
+-- whatever value a load would read: one and the same action, which is no load, or none; or a load
+-- of one cell into one register
 abbrev pub OnlyReads : (ℤ → Option Action) → Type 0
 OnlyReads f = ((a : Option Action) × IsNoLoad a × ((x : ℤ) → f x ≡ a)) ⊎ ((r : ℕ) × (c : ℕ) × ((x : ℤ) → f x ≡ Some (Load r c x)))
 
--- the cells with their first numbers, what stands for the root's body, and what a task with this body and these arguments, of
--- this name and after these actions, does next where a load would read this number
+-- the cells with their first values, what represents the root's body, and what a task with this
+-- body and these arguments, of this name and after these actions, does next where a load would read
+-- this value
 pub record Behaviour : Type 0 where
   pub cells : Cells
   pub root_line : ℕ
@@ -50,7 +52,8 @@ pub record IsNextOf (B : Behaviour) (H : History) (v : Event) : Type 0 where
 abbrev pub IsOver : History → Type 0
 IsOver H = (t : Name) → IsSpawned H t → HasEnded H t
 
--- H is a run of the behaviour, after which both tasks can step next: the one to e, the other to f, but for the number that f reads
+-- H is a run of the behaviour, after which both tasks can step next: the one to e, the other to f,
+-- but for the value that f reads
 pub record IsRealOf (B : Behaviour) (H : History) (e f : Event) : Type 0 where
   pub run : IsRunOf B H
   pub earlier : IsNextOf B H e

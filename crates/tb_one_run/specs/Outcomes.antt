@@ -49,11 +49,12 @@ with_number x a = a
 abbrev pub as_read_at : Cells → History → Event → Event
 as_read_at cells H v = record { task = v.task; action = with_number (number_read cells H v.action) v.action }
 
--- so it is of a program's cells
+-- the event, where a load reads what its cell of the program has after H
 abbrev pub as_read : Program → History → Event → Event
 as_read P H v = as_read_at P.cells H v
 
--- H is a run of the program, after which both tasks can step next: the one to e, the other to f, but for the number that f reads
+-- H is a run of the program, after which both tasks can step next: the one to e, the other to f,
+-- but for the value that f reads
 pub record IsReal (P : Program) (H : History) (e f : Event) : Type 0 where
   pub run : LegalFor P H
   pub earlier : IsNext P H e

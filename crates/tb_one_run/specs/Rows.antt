@@ -12,8 +12,8 @@ abbrev pub order_of : Bool → Order
 order_of true = Synchronised
 order_of false = WithExclusion
 
--- r says of v, after H, with which event it races, over what, and whether exclusion keeps the two apart: it is the newest such
--- event, and where it says apart v has no race that isn't
+-- r says of v, after H, with which event it races, over what, and whether exclusion separates the
+-- two: it is the newest such event, and where it says apart v has no race that isn't
 pub record IsRow (H : History) (v : Event) (r : Race) : Type 0 where
   pub between : History
   pub event : Event

@@ -35,9 +35,10 @@ pub fn every_schedule()
         HasRace Synchronised H ↔ HasRace Synchronised K }
 {}
 
-/// The first race is real: take the first step f of a run that has a race that isn't apart, and any step e with which it
-/// has such a race. What the order with exclusion puts in front of e or of f is a run, after which both tasks can step
-/// next: the one to e, the other to f, which may read another number there.
+/// The first race is real: take the first step f of a run that has a race that isn't apart, and any
+/// step e with which it has such a race. What the order with exclusion puts in front of e or of f
+/// is a run, after which both tasks can step next: the one to e, the other to f, which may read
+/// another value there.
 pub fn first_race()
     ensures { (B : Behaviour) (f e : Event) (F E : History) → IsRunOf B (f ∷ F) →
         IsRace WithExclusion (f ∷ F) (e ∷ E) → (HasRace WithExclusion F → ⊥) →

@@ -58,7 +58,7 @@ pub fn every_schedule()
 /// The first race is real: where f is the first event that has a race that isn't apart, and e is
 /// one with which it has such a race, the events that the order with exclusion puts in front of
 /// either are a run of the program, after which both tasks can step next: the one to e, the other
-/// to f. Where f is a load it may read another number there.
+/// to f. Where f is a load it may read another value there.
 pub fn first_race()
     ensures { (P : Program) (f e : Event) (F E : History) → LegalFor P (f ∷ F) →
         IsRace WithExclusion (f ∷ F) (e ∷ E) → (HasRace WithExclusion F → ⊥) →

@@ -10,7 +10,7 @@ use clap::{Arg, ArgAction, Command, Error};
 use std::alloc::Global;
 use std::convert::AsStr;
 
-/// What stands below the options in the help.
+/// What is below the options in the help.
 const EXAMPLES: &str = "\
 A session comes on standard input: a program, a line `---`, and commands.
 Each reply is written before the next command is read.

@@ -5,7 +5,7 @@ ghost use Rattle.std.specs.Prelude.{◌≤◌};
 /// The most workers that may be asked for.
 pub const MOST_WORKERS: u32 = 64;
 
-/// The most entries that the journal may be given room for.
+/// The most entries that the journal may be given capacity for.
 pub const MOST_ENTRIES: u32 = 1_000_000;
 
 /// The workers where no option says otherwise.

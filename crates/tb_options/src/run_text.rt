@@ -9,7 +9,7 @@ use clap::{Arg, ArgAction, Command, Error};
 use std::alloc::Global;
 use std::convert::AsStr;
 
-/// What stands below the options in the help.
+/// What is below the options in the help.
 const EXAMPLES: &str = "\
 A run text is what a run's tasks did, one event a line. Its report says whether
 OpenMP allows this order, which tasks haven't ended, and which steps race.

@@ -1,4 +1,4 @@
--- What is answered of the entries.
+-- What is answered of the stored steps.
 use Rattle.std.proofs.Common.{◌≡◌, ◌<◌, ◌+◌, ℕ, suc, List, [], ◌∷◌, ◌++◌, cond, length, take, drop, reverse, refl, sym, ap, ap₂, ◌∙◌, Some, None, Option, get_or, slice_get, append-nil}
 use Rattle.std.specs.Option.{option_to_list}
 use Rattle.std.proofs.lemmas.List.{reverse-append}
@@ -17,7 +17,7 @@ use Rattle.tb_races.specs.declared.race.Race.{Race}
 use Rattle.tb_races.specs.Immediate.{immediate, immediate_of}
 use Rattle.tb_races.specs.Racing.{race_of, races}
 
--- ---- one entry more
+-- ---- one stored step more
 
 reverse_more : {A : Type 0} (o : Option A) (xs : List A) → reverse (option_to_list o ++ xs) ≡ reverse xs ++ option_to_list o
 reverse_more (Some x) xs = reverse-append (x ∷ []) xs
@@ -39,7 +39,7 @@ module _ (entries : List Entry) (at : ℕ) (x : Entry) (within : at < length ent
       ∙ sym (reverse_more (race_of F x.event) (races F))
       ∙ ap (λ K. reverse (races K)) (sym more)
 
--- the entry that is read there is that one
+-- the stored step that is read there is that one
 pub read_there : (entries : List Entry) (at : ℕ) (x v : Entry) → at < length entries → x ≡ get_or entries at x → slice_get entries at ≡ Some v → x ≡ v
 read_there entries at x v within here is = some_same x v (sym (slice_get_read entries (length entries) at x refl within here) ∙ is)
 

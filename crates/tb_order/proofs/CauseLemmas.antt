@@ -1,4 +1,4 @@
--- The immediate needs of a step by their places.
+-- The immediate needs of a step by their indexes.
 use Rattle.std.proofs.Common.{◌≡◌, ◌<◌, ◌≤◌, ◌+◌, ℕ, zero, suc, List, [], ◌∷◌, ◌++◌, Bool, true, false, cond, length, map, take, reverse, get_or, is_some, Option, Some, None, refl, sym, ap, ap₂, ◌∙◌, subst, arith, ⊎_elim}
 use Rattle.std.specs.List.{All}
 use Rattle.std.specs.Option.{option_map, option_to_list}
@@ -53,7 +53,7 @@ module _ (front : List Entry) (v : Event) where
   abbrev F : History
   F = history_of front
 
-  -- ---- one entry
+  -- ---- one stored step
 
   module _ (p : ℕ) (x : Entry) (within : p < length front) (here : x ≡ get_or front p x) where
     abbrev K : History
@@ -111,7 +111,7 @@ module _ (front : List Entry) (v : Event) where
   pub causes_told : (places : List ℕ) → places ≡ reverse (nearest F v F) → (causes : List Cause) → some_causes causes ≡ map (told front v) places → causes ≡ reverse (immediate F v F)
   causes_told places are causes h = same_causes causes (reverse (immediate F v F)) (h ∙ places_told places are)
 
-  -- each of them is told
+  -- each of them is listed
   all_some : (xs : List ℕ) (cs : List Cause) → map (told front v) xs ≡ some_causes cs → All (λ p. is_some (told front v p) ≡ true) xs
   all_some [] cs h = λ i d l. absurd (omega (arith, l))
   all_some (x ∷ xs) [] h = absurd (not_empty (told front v x) (map (told front v) xs) h)
@@ -124,7 +124,7 @@ module _ (front : List Entry) (v : Event) where
   pub places_near : (places : List ℕ) → places ≡ reverse (nearest F v F) → All (λ p. is_some (told front v p) ≡ true) places
   places_near places are = all_some places (reverse (immediate F v F)) (places_told places are)
 
-  -- and stands there
+  -- and is there
   stands_so : (p : ℕ) → is_some (told front v p) ≡ true → p < length front
   stands_so p h = ⊎_elim (λ found. found.1) (λ past. absurd (false≢true (sym (ap (λ o. is_some (told_so F v (history_of (take p front)) o)) past.1) ∙ h))) (slice_get_cases front p).1
 

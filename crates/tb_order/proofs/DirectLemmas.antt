@@ -66,7 +66,7 @@ module _ (entries : List Entry) where
     abbrev e : StepId
     e = step_of (H q) (ev q inside)
 
-    -- a step needs it by a chain where it is behind it
+    -- a step needs it by a chain where it is after it
     chain_is : (n : ℕ) (w : n < length entries) → is_after AllNeeds entries n q ≡ list_any (needs (H n) (ev n w)) (removed e (H n))
     chain_is n w =
         after_is AllNeeds entries n q w inside

@@ -1,4 +1,4 @@
--- The immediate needs of one entry more.
+-- The immediate needs of one stored step more.
 use Rattle.std.proofs.Common.{◌≡◌, ◌<◌, ◌+◌, ℕ, List, ◌++◌, length, take, reverse, map, sym, ap, ap₂, ◌∙◌, Some, get_or}
 use Rattle.std.proofs.lemmas.List.{reverse-append}
 use Rattle.indexmap.proofs.ReorderLemmas.{map-reverse}

@@ -15,7 +15,7 @@ use Rattle.tb_lanes.proofs.AfterLemmas.{low, reaches_so}
 use Rattle.tb_lanes.proofs.NeedingLemmas.{below_last, below_more, each_more, kept_is, last_is, length_more}
 use Rattle.tb_lanes.proofs.SoundLemmas.{adds_told, first_touches, itself_told, sound_more, stays_told, told_touch}
 
--- one place more, in front of all, which none of them reaches
+-- one index more, in front of all, which none of them reaches
 pub apart_more : (entries : List Entry) (old new : List ℕ) (c : ℕ) (e : new ≡ old ++ c ∷ []) → AreApart entries old → ((i : ℕ) → i < length old → c < place_at old i) → ((i : ℕ) → i < length old → reaches AllNeeds entries (place_at old i) c ≡ false) → AreApart entries new
 apart_more entries old new c e is low none = record {
   falling = λ i j l m.
@@ -45,7 +45,7 @@ module _ (entries : List Entry) (tasks : Tasks) (clocks : Clocks) (s : Step) (be
       let t = first_touches AllNeeds entries tasks begun.by_task p w (lanes_of clocks) begun.front.lanes b prev in
       (t.0, told_touch AllNeeds entries tasks begun.by_task p w (lanes_of clocks) begun.front.lanes s.lane begun.lane.own (bound_in (own_row clocks s)) begun.sound b t.0 (omega (arith, t.0, w)) t.1 (begun.by_task.behind p w))
 
-  -- what is told of is told with what is in front of it
+  -- what is listed is so with what is in front of it
   on : (row : ℕ → ℕ) → IsSound AllNeeds entries tasks (lanes_of clocks) row s.lane p → (x q : ℕ) → x < p → q < p → is_told AllNeeds entries tasks (lanes_of clocks) row s.lane p x ≡ true → reaches AllNeeds entries x q ≡ true → is_told AllNeeds entries tasks (lanes_of clocks) row s.lane p q ≡ true
   on row so x q m n t r = ⊎_elim (λ e. subst (λ y. is_told AllNeeds entries tasks (lanes_of clocks) row s.lane p y ≡ true) (eqb-true x q e) t) (λ a. so.closed x q m n t a) (or_cases (x == q) (is_after AllNeeds entries x q) r)
 
@@ -72,7 +72,7 @@ module _ (entries : List Entry) (tasks : Tasks) (clocks : Clocks) (s : Step) (be
         differs : (y : ℕ) → reaches AllNeeds entries y c ≡ false → y ≢ c
         differs y h e = both_ways (reaches AllNeeds entries y c) h (reaches_so AllNeeds entries y c (inl e))
 
-    -- a candidate of which nothing tells, joined
+    -- a candidate which nothing has, joined
     pub joined_found : AreRising new.rows.items → Adds AllNeeds entries tasks (lanes_of clocks) s.lane p c (bound_among old.rows.items) (bound_among new.rows.items) → IsCandidate entries tasks clocks s c
         → is_told AllNeeds entries tasks (lanes_of clocks) (bound_among old.rows.items) s.lane p c ≡ false → IsSoFar entries tasks clocks s new
     joined_found rise more offered unmet = record {
@@ -105,11 +105,11 @@ module _ (entries : List Entry) (tasks : Tasks) (clocks : Clocks) (s : Step) (be
         differs : (y : ℕ) → reaches AllNeeds entries y c ≡ false → y ≢ c
         differs y h e = both_ways (reaches AllNeeds entries y c) h (reaches_so AllNeeds entries y c (inl e))
 
-  -- a candidate of which something tells is reached by what was found
+  -- a candidate which something has is reached by what was found
   pub met_below : (needed : Needed) → IsSoFar entries tasks clocks s needed → (c : ℕ) → IsCandidate entries tasks clocks s c → is_met entries tasks clocks s needed c → IsBelow AllNeeds entries needed.places.items c
   met_below needed is c offered h = ⊎_elim (λ a. absurd (both_ways (is_known entries tasks clocks s c) offered.2 a)) (λ a. a) (is.from c offered.0 h)
 
-  -- and of what is reached by it the rows tell
+  -- and of what is reached by it the rows say
   pub below_met : (needed : Needed) → IsSoFar entries tasks clocks s needed → (q : ℕ) → q < p → IsBelow AllNeeds entries needed.places.items q → is_met entries tasks clocks s needed q
   below_met needed is q l h =
       on (bound_among needed.rows.items) is.sound (place_at needed.places.items h.0) q (is.low h.0 h.1) l (⊎_elim (λ a. let k = known_first (place_at needed.places.items h.0) a in is.kept (place_at needed.places.items h.0) k.0 k.1) (λ a. a) (is.listed h.0 h.1)) h.2

@@ -84,7 +84,7 @@ module _ (entries : List Entry) (n : ℕ) (w : n < length entries) (x : Entry) (
             subst (λ xs. Shares entries (n + 1) j xs (new_loads j)) (sym (same_writes j d))
             (subst (λ ys. Shares entries (n + 1) j (writes j) ys) (sym (same_loads j d)) (shares_other j (writes j) (loads j) (in_is j ∙ in_slot x.event.action i j slot ∙ ne_eqb j i d) (are j)))
 
-    -- a load comes beside the others
+    -- a load comes next to the others
     pub load_shares : is_load x.event.action ≡ true → (writes loads : List ℕ) → Shares entries n i writes loads → Shares entries (n + 1) i writes (loads ++ n ∷ [])
     load_shares h writes loads is = record {
       writes_in = λ j l. let g = is.writes_in j l in (omega (arith, g.0), g.1, g.2);

@@ -255,7 +255,7 @@ module _ (entries : List Entry) (tasks : Tasks) (clocks : Clocks) (s : Step) (be
         by y m r true e = let low = (each_source entries p w ends finds kept are_shared a a_is y m).0 in inl (touched_on y x low l (begun.own y low e) r)
         by y m r false e = inr (y, filter_among (λ q. not (is_known entries tasks clocks s q)) all y m (ap not e), r)
 
-    -- ---- what a row tells
+    -- ---- what a row says
 
     module _ (row : ℕ → ℕ) (so : IsSound AllNeeds entries tasks (lanes_of clocks) row s.lane p) (tells : (c : ℕ) → IsAmong found c → is_told AllNeeds entries tasks (lanes_of clocks) row s.lane p c ≡ true) where
       on : (y x : ℕ) → y < p → x < p → is_told AllNeeds entries tasks (lanes_of clocks) row s.lane p y ≡ true → reaches AllNeeds entries y x ≡ true → is_told AllNeeds entries tasks (lanes_of clocks) row s.lane p x ≡ true
@@ -399,6 +399,6 @@ begun_of entries tasks clocks s n e are told w within rising sound lane own = re
   own = subst (IsOwn AllNeeds entries tasks (lanes_of clocks) (bound_in (own_row clocks s)) s.lane) (sym e) own;
 }
 
--- the action at a place, by whatever shows that it is one
+-- the action at an index, by whatever shows that it is one
 pub action_at : (entries : List Entry) (m n : ℕ) → m ≡ n → (w : m < length entries) (i : n < length entries) (a : Action) → a ≡ (there entries n i).0.event.action → a ≡ (at AllNeeds entries m w).event.action
 action_at entries m n e w i a h = h ∙ subst (λ k. (j : k < length entries) → (there entries n i).0.event.action ≡ (at AllNeeds entries k j).event.action) (sym e) (λ j. ap (λ (v : Entry). v.event.action) (same_at entries n i j)) w

@@ -30,11 +30,12 @@ pub record AreDirect (entries : List Entry) (p : ℕ) (places : List ℕ) : Type
   pub each : (i : ℕ) → i < length places → IsDirect entries p (place_at places i)
   pub all : (q : ℕ) → IsDirect entries p q → IsAmong places q
 
--- the lane is the one of this number, k, or where that is a new one, the lane of the end that is told, which is the newest there
+-- the lane is the one with this index, k, or where that is a new one, the lane of the end that is
+-- listed, which is the newest there
 abbrev pub GoesBehind : Lanes → ℕ → Option ℕ → ℕ → Type 0
 GoesBehind clocks k behind j = (j ≡ k) ⊎ ((x : ℕ) × (behind ≡ Some x) × (k ≡ clocks.count) × (j ≡ lane clocks x) × (clocks.last (lane clocks x) ≡ x))
 
--- the row of this number, or the one that was made and is added
+-- the row with this index, or the one that was made and is added
 abbrev pub IsMade : Clocks → ℕ → Option (Vec LaneBound Global) → Clocks → ℕ → Type 0
 IsMade old row None new n = (new ≡ old) × (n ≡ row)
 IsMade old row (Some v) new n = (new.rows.items ≡ old.rows.items ++ v ∷ []) × (new.of ≡ old.of) × (new.lanes ≡ old.lanes) × (new.lasts ≡ old.lasts) × (n ≡ length new.rows.items)

@@ -11,7 +11,7 @@ use Rattle.tb_order.specs.declared.edge.Edge.{Edge}
 abbrev pub as_edge : StepId → Cause → Edge
 as_edge e c = record { earlier = c.step; later = e; kind = c.kind }
 
--- those of each event, the newest first; of an event that with the newest step first
+-- the immediate needs of each event, the newest first; of an event that with the newest step first
 abbrev pub edges : History → List Edge
 edges [] = []
 edges (v ∷ H) = map (as_edge (step_of H v)) (immediate H v H) ++ edges H

@@ -1,4 +1,4 @@
--- The immediate needs of a step by their places.
+-- The immediate needs of a step by their indexes.
 use Rattle.std.specs.Prelude.{ℕ, List, Option, Some, None, take, slice_get}
 use Rattle.tb_model.specs.declared.event.Event.{Event}
 use Rattle.tb_model.specs.Facts.{History}
@@ -11,6 +11,6 @@ abbrev pub told_so : History → Event → History → Option Entry → Option C
 told_so H v K None = None
 told_so H v K (Some u) = cause H v K u.event
 
--- the entry at this place, as an immediate need of v behind these entries
+-- the stored step at this index, as an immediate need of v after these stored steps
 abbrev pub told : List Entry → Event → ℕ → Option Cause
 told front v p = told_so (history_of front) v (history_of (take p front)) (slice_get front p)

@@ -10,21 +10,21 @@ use Rattle.tb_lanes.specs.Bounds.{AreRising, bound_among}
 use Rattle.tb_lanes.specs.Clocks.{IsSound, is_told, lanes_of, previous}
 use Rattle.tb_lanes.specs.Needing.{AreApart, IsAmong, IsBelow, IsCandidate, is_known, place_at}
 
--- the place in front of first, none where that is 0
+-- the index in front of first, none where that is 0
 abbrev pub first_places : ℕ → List ℕ
 first_places first = if first == 0 then [] else (first - 1) ∷ []
 
--- these places and the one in front of first, the oldest first
+-- these indexes and the one in front of first, the oldest first
 pub record IsWalked (found : List ℕ) (first : ℕ) (order : List ℕ) : Type 0 where
   pub each : (i : ℕ) → i < length order → IsAmong found (place_at order i) ⊎ (first ≡ suc (place_at order i))
   pub all : (c : ℕ) → IsAmong found c ⊎ (first ≡ suc c) → IsAmong order c
   pub rising : (i j : ℕ) → i ≤ j → j < length order → place_at order i ≤ place_at order j
 
--- the rows tell of q
+-- the rows have q
 abbrev pub is_met : List Entry → Tasks → Clocks → Step → Needed → ℕ → Type 0
 is_met entries tasks clocks s needed q = IsTrue (is_told AllNeeds entries tasks (lanes_of clocks) (bound_among needed.rows.items) s.lane s.at q)
 
--- what was found so far is apart, and the rows tell of it and of what is in front of it
+-- what was found so far is apart, and the rows have it and what is in front of it
 pub record IsSoFar (entries : List Entry) (tasks : Tasks) (clocks : Clocks) (s : Step) (needed : Needed) : Type 0 where
   pub rising : AreRising needed.rows.items
   pub sound : IsSound AllNeeds entries tasks (lanes_of clocks) (bound_among needed.rows.items) s.lane s.at

@@ -1,4 +1,4 @@
-//! Questions to a core: why does a step stand where it does, and which steps race?
+//! Questions to a core: why is a step where it is, and which steps race?
 
 ghost use Rattle.std.specs.Prelude.{◌≡◌, ◌↔◌, IfOk, IsErrOf, IsFalse, reverse};
 ghost use Rattle.tb_model.specs.Equivalent.{stands};
@@ -35,7 +35,7 @@ pub fn causes(alloc: Global, core: &Core, step: &StepId) -> Result<Vec<Cause>, C
 }
 
 /// For each step that races with earlier ones the race that is named, in the order of the history:
-/// with the newest from which exclusion doesn't keep it apart, else with the newest.
+/// with the newest from which exclusion doesn't separate it, else with the newest.
 pub fn races(alloc: Global, core: &Core) -> Result<Vec<Race>, AllocError>
     ensures { IfOk result (λ races.
         races.items ≡ reverse (Racing.races (history core.now.run))) }

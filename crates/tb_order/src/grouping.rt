@@ -12,7 +12,7 @@ use tb_core::History;
 use tb_lanes::{Tasks, step_before};
 use tb_model::Action;
 
-/// A place in front of which no end stands to which the step is linked: that of the end of a
+/// An index in front of which there is no end to which the step is linked: that of the end of a
 /// taskgroup is where the task went on in the group, that of others 0.
 pub fn first_asked(entries: &History<'_>, tasks: &Tasks, at: usize) -> usize
     requires legal { AreLegal entries.now }
@@ -27,7 +27,7 @@ pub fn first_asked(entries: &History<'_>, tasks: &Tasks, at: usize) -> usize
     }
 }
 
-/// The place of the first step of the task in the innermost group that it has open, or of its first
+/// The index of the first step of the task in the innermost group that it has open, or of its first
 /// step where none is.
 fn opened(entries: &History<'_>, tasks: &Tasks, at: usize) -> usize
     requires legal { AreLegal entries.now }

@@ -16,7 +16,7 @@ use tb_core::{History, step_at};
 use tb_model::{Action, TaskName};
 use tb_races::Cause;
 
-/// The immediate needs of the step at this place.
+/// The immediate needs of the step at this index.
 pub fn immediate(alloc: Global, entries: &History<'_>, at: usize) -> Result<Vec<Cause>, AllocError>
     requires legal { AreLegal entries.now }
     requires bound { length entries.now ≤ 1000000 }
@@ -30,7 +30,7 @@ pub fn immediate(alloc: Global, entries: &History<'_>, at: usize) -> Result<Vec<
     Ok(causes)
 }
 
-/// The causes at these places, for the action of the task, which comes after these steps.
+/// The causes at these indexes, for the action of the task, which comes after these steps.
 fn causes_at(
     alloc: Global,
     front: &History<'_>,
@@ -54,7 +54,7 @@ fn causes_at(
     Ok(causes)
 }
 
-/// The step at this place, which is an immediate need of the action of the task.
+/// The step at this index, which is an immediate need of the action of the task.
 fn cause_at(
     front: &History<'_>,
     task: &TaskName,

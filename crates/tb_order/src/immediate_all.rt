@@ -59,7 +59,7 @@ fn no_needs(alloc: Global) -> Needs
     }
 }
 
-/// Adds the step at this place, and returns those that it needs immediately, the newest first.
+/// Adds the step at this index, and returns those that it needs immediately, the newest first.
 fn take_step(
     needs: &mut Needs,
     entries: &History<'_>,
@@ -99,7 +99,7 @@ fn lane_on(clocks: &Clocks, lane: usize, behind: Option<usize>) -> usize
     }
 }
 
-/// The number of the row that was made, which is added, or of the other where none was.
+/// The index of the row that was made, which is added, or of the other where none was.
 fn row_of(
     clocks: &mut Clocks,
     row: usize,
@@ -116,7 +116,7 @@ fn row_of(
     }
 }
 
-/// The steps at these places, as what the step at the other needs immediately.
+/// The steps at these indexes, as what the step at the other needs immediately.
 fn causes_of(
     alloc: Global,
     entries: &History<'_>,

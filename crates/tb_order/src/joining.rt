@@ -13,8 +13,8 @@ use tb_lanes::{
     whole,
 };
 
-/// Whether the step at `early` is told of as one in front of the step, where of its lane the row so
-/// far tells up to this bound.
+/// Whether the step at `early` is listed as one in front of the step, where of its lane the row so
+/// far says up to this bound.
 pub fn is_merged(
     tasks: &Tasks,
     clocks: &Clocks,
@@ -38,7 +38,7 @@ pub fn is_merged(
         || (early < bound || origin_reaches(tasks, clocks, waiter.at, early))
 }
 
-/// Whether what generates the task of the step at this place is the step at `early`, or comes after
+/// Whether what generates the task of the step at this index is the step at `early`, or comes after
 /// it.
 fn origin_reaches(tasks: &Tasks, clocks: &Clocks, at: usize, early: usize) -> bool
     requires shaped { IsShaped tasks.now }
@@ -56,8 +56,8 @@ fn origin_reaches(tasks: &Tasks, clocks: &Clocks, at: usize, early: usize) -> bo
     reaches(tasks, clocks, origin - 1, early)
 }
 
-/// Adds the step at this place, with all that is in front of it and isn't told yet. What generates
-/// its task is told with all that is in front of it, or must be added too.
+/// Adds the step at this index, with all that is in front of it and isn't listed yet. What
+/// generates its task is listed with all that is in front of it, or must be added too.
 pub fn join(
     alloc: Global,
     rows: &mut Vec<Vec<LaneBound>>,
@@ -106,7 +106,7 @@ pub fn join(
     Ok(())
 }
 
-/// The row of the step at this place, with its own lane up to it.
+/// The row of the step at this index, with its own lane up to it.
 fn row_with(alloc: Global, clocks: &Clocks, at: usize) -> Result<Vec<LaneBound>, AllocError>
     requires laned { length clocks.now.lanes.items ≡ length clocks.now.of.items }
     requires at { at < length clocks.now.of.items }

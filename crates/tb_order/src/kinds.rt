@@ -1,4 +1,4 @@
-//! Why a step directly needs an earlier one, found by scans: nothing is kept for it.
+//! Why a step directly needs an earlier one, found by scans: nothing is stored for it.
 
 ghost use Rattle.std.specs.Prelude.{◌≡◌, IsTrue};
 ghost use Rattle.tb_model.specs.Facts.{is_spawned};
@@ -76,7 +76,7 @@ pub fn shared(later: &Action, earlier: &Action) -> Option<Conflict>
     }
 }
 
-/// Why the action of `t` comes behind the end of `u`.
+/// Why the action of `t` comes after the end of `u`.
 fn end_kind(front: &History<'_>, t: &TaskName, action: &Action, u: &TaskName) -> Option<NeedKind>
     requires legal { AreLegal front.now }
     requires later { IsTrue (is_spawned (history_of front.now) t.now) }

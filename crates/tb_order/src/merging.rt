@@ -54,8 +54,8 @@ pub fn nothing_past(alloc: Global, exclusion: bool) -> Past
     }
 }
 
-/// Adds the step at this place to the order, and returns an end after which it comes, where it
-/// goes on in the lane of one.
+/// Adds the step at this index to the order, and returns an end after which it comes, where it goes
+/// on in the lane of one.
 pub fn advance(
     alloc: Global,
     entries: &History<'_>,
@@ -95,7 +95,7 @@ fn behind_of(clocks: &Clocks, first: usize, lane: usize) -> Option<usize>
     }
 }
 
-/// Notes the step at this place among the ends, where it is one.
+/// Notes the step at this index among the ends, where it is one.
 fn note_over(
     alloc: Global,
     entries: &History<'_>,
@@ -122,7 +122,7 @@ fn note_over(
     Ok(())
 }
 
-/// The step at this place, with the row and the lane of the step of its task in front of it, else
+/// The step at this index, with the row and the lane of the step of its task in front of it, else
 /// with none and a new lane.
 pub fn begin(tasks: &Tasks, clocks: &Clocks, at: usize) -> Step
     requires shaped { IsShaped tasks.now }
@@ -229,7 +229,7 @@ fn finish(
     }
 }
 
-/// For whose children the step at this place may wait: a start for those of its parent, others for
+/// For whose children the step at this index may wait: a start for those of its parent, others for
 /// their own.
 fn whose_children(entries: &History<'_>, tasks: &Tasks, at: usize) -> usize
     requires tasks { AreTasks entries.now tasks.now }
@@ -244,7 +244,7 @@ fn whose_children(entries: &History<'_>, tasks: &Tasks, at: usize) -> usize
     }
 }
 
-/// The number of the first end, this one or one after it, in whose lane no step went on.
+/// The index of the first end, this one or one after it, in whose lane no step went on.
 fn first_free(clocks: &Clocks, ends: &Ends, from: usize) -> usize
     requires ends { (i : ℕ) → i < length ends.now.places.items
         → end_at ends.now i < length clocks.now.lanes.items }
@@ -263,8 +263,8 @@ fn first_free(clocks: &Clocks, ends: &Ends, from: usize) -> usize
     free
 }
 
-/// The step with its row as it is. One that opens a lane goes on in that of the end of this number,
-/// where that is in front of it: what generates its task may have waited for it.
+/// The step with its row as it is. One that opens a lane goes on in that of the end with this
+/// index, where that is in front of it: what generates its task may have waited for it.
 fn stay(tasks: &Tasks, clocks: &Clocks, ends: &Ends, free: usize, step: Step) -> Step
     requires shaped { IsShaped tasks.now }
     requires listed { step.at ≡ length clocks.now.of.items }

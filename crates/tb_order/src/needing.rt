@@ -48,7 +48,7 @@ pub fn candidates(
     Ok(found)
 }
 
-/// The places of which the row with which the step begins doesn't tell.
+/// The indexes of which the row with which the step begins doesn't say.
 pub fn untold(
     alloc: Global,
     entries: &History<'_>,
@@ -129,7 +129,7 @@ pub fn needed_among(
     Ok((Some(row), needed.places))
 }
 
-/// These places, and that in front of the other where it isn't 0, the oldest first.
+/// These indexes, and that in front of the other where it isn't 0, the oldest first.
 fn in_order(found: Vec<usize>, first: usize) -> Result<Vec<usize>, AllocError>
     ensures { IfOk result (λ order. IsWalked found.items first order.items) }
 {
@@ -148,7 +148,7 @@ fn with_first(found: Vec<usize>, first: usize) -> Result<Vec<usize>, AllocError>
     Ok(all)
 }
 
-/// Adds this place, where nothing that was found reaches it.
+/// Adds this index, where nothing that was found reaches it.
 fn need(
     needed: &mut Needed,
     entries: &History<'_>,
@@ -198,7 +198,7 @@ fn need(
     Ok(())
 }
 
-/// Whether one of these is the step at this place, or comes after it.
+/// Whether one of these is the step at this index, or comes after it.
 fn is_reached(tasks: &Tasks, clocks: &Clocks, places: &[usize], early: usize) -> bool
     requires shaped { IsShaped tasks.now }
     requires listed { length clocks.now.of.items ≤ length tasks.now.numbers.items }

@@ -11,7 +11,7 @@ use std::alloc::{AllocError, Global};
 use tb_core::History;
 use tb_lanes::{Clocks, Key, Rows, Tasks, item_key, no_ends, note_end, parent_of};
 
-/// Adds the end at this place to each row in which it belongs.
+/// Adds the end at this index to each row in which it belongs.
 pub fn note_rows(
     alloc: Global,
     entries: &History<'_>,
@@ -41,7 +41,7 @@ pub fn note_rows(
     Ok(())
 }
 
-/// Adds the end at this place to the row of this key.
+/// Adds the end at this index to the row of this key.
 fn note(
     alloc: Global,
     tasks: &Tasks,

@@ -15,7 +15,7 @@ use tb_core::History;
 use tb_lanes::Tasks;
 use tb_model::{Action, TaskName};
 
-/// The steps of these entries by their tasks.
+/// The steps of these stored steps by their tasks.
 pub fn tasks_of(alloc: Global, entries: &History<'_>) -> Result<Tasks, AllocError>
     requires legal { AreLegal entries.now }
     ensures { IfOk result (AreTasks entries.now) }
@@ -35,7 +35,7 @@ pub fn tasks_of(alloc: Global, entries: &History<'_>) -> Result<Tasks, AllocErro
     Ok(tasks)
 }
 
-/// Adds the step at this place, and tells how many tasks there are then.
+/// Adds the step at this index, and returns how many tasks there are then.
 fn add(
     tasks: &mut Tasks,
     entries: &History<'_>,
@@ -61,7 +61,7 @@ fn add(
     }
 }
 
-/// Whether the step that is told is of the same task.
+/// Whether the step that is listed is of the same task.
 fn is_own(entries: &History<'_>, at: usize, previous: usize) -> bool
     requires at { at < length entries.now }
     requires previous { previous ≤ at }
@@ -80,8 +80,8 @@ fn push(tasks: &mut Tasks, previous: usize, number: usize, origin: usize) -> Res
     Ok(())
 }
 
-/// One more than the place of the newest step in front of this one that touches its task. Who
-/// steps on isn't looked for by name.
+/// One more than the index of the newest step in front of this one that touches its task. Who steps
+/// on isn't looked for by name.
 fn previous_of(
     newest: &mut IndexMap<TaskName, usize>,
     entries: &History<'_>,
@@ -103,7 +103,7 @@ fn previous_of(
     Ok(place_in(newest, entries.task(at)))
 }
 
-/// Notes the place for the task that the action generates, if it generates one.
+/// Notes the index for the task that the action generates, if it generates one.
 fn note_spawn(
     newest: &mut IndexMap<TaskName, usize>,
     action: &Action,

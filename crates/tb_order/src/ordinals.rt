@@ -11,7 +11,7 @@ use tb_core::History;
 use tb_lanes::{Tasks, step_before};
 use tb_model::StepId;
 
-/// The number of each of these entries among the steps of its task.
+/// The ordinal of each of these stored steps among the steps of its task.
 pub fn ordinals_of(
     alloc: Global,
     entries: &History<'_>,
@@ -30,7 +30,7 @@ pub fn ordinals_of(
     Ok(ordinals)
 }
 
-/// The number of the step at this place, where those in front of it have theirs.
+/// The ordinal of the step at this index, where those in front of it have theirs.
 fn next_ordinal(tasks: &Tasks, ordinals: &[u32], at: usize) -> u32
     requires shaped { IsShaped tasks.now }
     requires at { at < length tasks.now.numbers.items }
@@ -47,7 +47,7 @@ fn next_ordinal(tasks: &Tasks, ordinals: &[u32], at: usize) -> u32
     }
 }
 
-/// The step at this place.
+/// The step at this index.
 pub fn named(entries: &History<'_>, ordinals: &[u32], at: usize) -> Result<StepId, AllocError>
     requires at { at < length entries.now }
     requires listed { length ordinals.now ≡ length entries.now }

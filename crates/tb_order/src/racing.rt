@@ -9,7 +9,7 @@ use tb_core::History;
 use tb_races::Race;
 use tb_stream::Races;
 
-/// The race of each entry that has one.
+/// The race of each stored step that has one.
 pub fn races_among(alloc: Global, entries: &History<'_>) -> Result<Vec<Race>, AllocError>
     requires { AreLegal entries.now }
     ensures { IfOk result (λ races.

@@ -7,7 +7,7 @@ use std::alloc::AllocError;
 use tb_core::History;
 use tb_lanes::{Kept, cut, grow, is_load, places_in, put, slot_of};
 
-/// Notes the step at this place at the cell that it touches, or at the output. One that stores or
+/// Notes the step at this index at the cell that it touches, or at the output. One that stores or
 /// prints comes after all that share it, so these go.
 pub fn note_shared(kept: &mut Kept, entries: &History<'_>, at: usize) -> Result<(), AllocError>
     requires at { at < length entries.now }

@@ -18,7 +18,8 @@ use tb_lanes::{Tasks, covers, step_before, waits_by_itself};
 use tb_model::{Action, Item, TaskName, some_apart, some_before};
 use tb_races::NeedKind;
 
-/// Whether the step at this place may be linked to ends of others. A start without depend items isn't.
+/// Whether the step at this index may be linked to ends of others. A start without depend items
+/// isn't.
 pub fn may_wait(entries: &History<'_>, tasks: &Tasks, at: usize) -> bool
     requires legal { AreLegal entries.now }
     requires tasks { AreTasks entries.now tasks.now }
@@ -30,7 +31,7 @@ pub fn may_wait(entries: &History<'_>, tasks: &Tasks, at: usize) -> bool
     waits_by_itself(entries.action(at), items) || is_held(entries, tasks, at)
 }
 
-/// Whether the task generated an undeferred child right in front of the step at this place.
+/// Whether the task generated an undeferred child right in front of the step at this index.
 pub fn is_held(entries: &History<'_>, tasks: &Tasks, at: usize) -> bool
     requires tasks { AreTasks entries.now tasks.now }
     requires at { at < length entries.now }
@@ -52,7 +53,7 @@ fn holds_some(action: &Action) -> bool
     }
 }
 
-/// Whether the task of the step at this place stood at its undeferred child `u`.
+/// Whether the task of the step at this index was at its undeferred child `u`.
 fn holds(entries: &History<'_>, tasks: &Tasks, at: usize, u: &TaskName) -> bool
     requires tasks { AreTasks entries.now tasks.now }
     requires at { at < length entries.now }
@@ -77,7 +78,7 @@ fn is_undeferred(action: &Action, u: &TaskName) -> bool
     }
 }
 
-/// Whether the step at this place is linked to the end at the other, where exclusion counts or
+/// Whether the step at this index is linked to the end at the other, where exclusion counts or
 /// doesn't.
 pub fn waits(exclusion: bool, entries: &History<'_>, tasks: &Tasks, at: usize, end: usize) -> bool
     requires legal { AreLegal entries.now }
@@ -92,7 +93,7 @@ pub fn waits(exclusion: bool, entries: &History<'_>, tasks: &Tasks, at: usize, e
     counts(exclusion, waiting_kind(entries, tasks, at, end))
 }
 
-/// Why the step at this place needs the one at the other directly.
+/// Why the step at this index needs the one at the other directly.
 pub fn kind_at(entries: &History<'_>, tasks: &Tasks, at: usize, earlier: usize) -> Option<NeedKind>
     requires legal { AreLegal entries.now }
     requires tasks { AreTasks entries.now tasks.now }
@@ -118,7 +119,7 @@ pub fn kind_at(entries: &History<'_>, tasks: &Tasks, at: usize, earlier: usize) 
     }
 }
 
-/// Why the step at this place comes behind the end of the task of the step at the other.
+/// Why the step at this index comes after the end of the task of the step at the other.
 fn waiting_kind(entries: &History<'_>, tasks: &Tasks, at: usize, end: usize) -> Option<NeedKind>
     requires legal { AreLegal entries.now }
     requires tasks { AreTasks entries.now tasks.now }
@@ -144,7 +145,7 @@ fn waiting_kind(entries: &History<'_>, tasks: &Tasks, at: usize, end: usize) -> 
     )
 }
 
-/// Why the action of `t` comes behind the end of `u`, where these are their items, and `t` stood at
+/// Why the action of `t` comes after the end of `u`, where these are their items, and `t` was at
 /// `u` or didn't.
 fn end_kind(
     front: &History<'_>,
@@ -231,7 +232,7 @@ fn start_kind(
     }
 }
 
-/// The depend items of the task of the step at this place.
+/// The depend items of the task of the step at this index.
 pub fn items_of<'a>(entries: &History<'a>, tasks: &Tasks, at: usize) -> &'a [Item]
     requires legal { AreLegal entries.now }
     requires tasks { AreTasks entries.now tasks.now }

@@ -13,7 +13,7 @@ use Rattle.tb_places.proofs.NextLemmas.{at_least, lower, rise}
 
 -- ---- how many are in front, by index
 
--- no number is missed
+-- no index is missed
 pub by_index : (low : ℕ) (gs : List ℕ) (i d : ℕ) → RiseFrom low gs → i < length gs → low + i ≤ get_or gs i d
 by_index low [] i d h l = absurd (omega (arith, l))
 by_index low (g ∷ gs) zero d h l = omega (arith, h.0)
@@ -45,7 +45,7 @@ below_is low gs x n rises least past = by (ltb n (below gs x)) refl
         let long = prefix_len-le-length (λ g. ltb g x) gs in
         absurd (omega (arith, under, past (omega (arith, more, long))))
 
--- as many that go are in front of a place as its number says, at most
+-- as many that go are in front of an index as is said, at most
 pub below_few : (gs : List ℕ) (x : ℕ) → RiseFrom 0 gs → below gs x ≤ x
 below_few gs x rises = by (below gs x) refl
   where
@@ -68,7 +68,7 @@ below_up gs x y rises h = by (below gs x) refl
         let more = below_at 0 gs y n rises (omega (arith, long, is)) (omega (arith, under, h)) in
         omega (arith, more)
 
--- one that goes is in front of those behind it
+-- one that goes is in front of those after it
 goes_there : (gs : List ℕ) (x n : ℕ) → goes_at x (drop n gs) ≡ true → (n < length gs) × (get_or gs n 0 ≡ x)
 goes_there [] x zero h = absurd (true≢false (sym h))
 goes_there [] x (suc n) h = absurd (true≢false (sym h))
@@ -81,9 +81,9 @@ below_gone gs x y rises h goes =
     let more = below_at 0 gs y (below gs x) rises there.0 (omega (arith, there.1, h)) in
     omega (arith, more)
 
--- ---- the places in front of all that go
+-- ---- the indexes in front of all that go
 
--- the place is in front of them all
+-- the index is in front of them all
 pub record IsFront (gs : List ℕ) (x : ℕ) : Type 0 where
   pub none : below gs x ≡ 0
   pub stays : goes_at x gs ≡ false
@@ -162,7 +162,8 @@ leap_found gs x from width to n rises least start is some ahead inside under ove
 
 -- ---- the loop
 
--- those in front of the one place are done, and so many of these that stay come first; so many that go are in front of the next
+-- those in front of the one index are done, and so many of these that stay come first; so many that
+-- go are in front of the next
 pub record Lowers (going old : List ℕ) (from : ℕ) (places : List ℕ) (at stay next : ℕ) : Type 0 where
   pub len : length places ≡ length old
   pub order : stay ≤ at
@@ -237,14 +238,14 @@ slice_rises gs from to rises = rise 0 (take (to - from) (drop from gs)) (front 0
     back low (suc n) [] h = tt
     back low (suc n) (x ∷ xs) h = lower low (suc x) (drop n xs) (omega (arith, h.0)) (back (suc x) n xs h.1)
 
--- nothing goes behind those that are passed
+-- nothing goes after those that are passed
 none_goes : (gs : List ℕ) (x n : ℕ) → length gs ≤ n → goes_at x (drop n gs) ≡ false
 none_goes [] x zero h = refl
 none_goes [] x (suc n) h = refl
 none_goes (g ∷ gs) x zero h = absurd (omega (arith, h))
 none_goes (g ∷ gs) x (suc n) h = none_goes gs x n (omega (arith, h))
 
--- where all that go are in front, the places from here on only move
+-- where all that go are in front, the indexes from here on only move
 pub lowers_rest : (going old : List ℕ) (from : ℕ) (places : List ℕ) (at stay next : ℕ) → Lowers going old from places at stay next
     → (at < length old → length going ≤ next) → Lowers going old from places at stay (length going)
 lowers_rest going old from places at stay next l past = record {
@@ -271,7 +272,7 @@ lowers_on going old from places at stay x l rises up within is new set_is =
     let same = set_is ∙ ap (λ n. set places stay (x - n)) (sym all) in
     subst (Lowers going old from new (at + 1) (stay + 1)) all (lowers_kept going old from places at stay (length going) x l rises up within is stays new same)
 
--- a place that is read from what is lowered so far is that of the row
+-- an index that is read from what is lowered so far is that of the row
 pub same_here : (going old : List ℕ) (from : ℕ) (places : List ℕ) (at stay next : ℕ) → Lowers going old from places at stay next → at < length old → get_or places at 0 ≡ get_or old at 0
 same_here going old from places at stay next l within =
     let m = drop_more places at 0 (omega (arith, l.len, within)) in
@@ -279,7 +280,7 @@ same_here going old from places at stay next l within =
     let o = l.rest in
     cc
 
--- ---- where the first place is behind all that go
+-- ---- where the first index is after all that go
 
 pub lowers_first : (going old : List ℕ) → RiseFrom 0 going → RiseFrom 0 old → length going ≤ below going (get_or old 0 0)
     → Lowers going old 0 old 0 0 (length going)

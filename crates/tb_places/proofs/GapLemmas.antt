@@ -1,4 +1,4 @@
--- Where some events go, the places of the others are lowered.
+-- Where some events go, the indexes of the others are lowered.
 use Rattle.std.proofs.Common.{◌≡◌, ◌<◌, ◌≤◌, ◌+◌, ◌-◌, ◌==◌, ℕ, suc, List, [], ◌∷◌, Bool, true, false, Option, cond, ltb, drop, refl, sym, ap, ◌∙◌, subst, arith, rules, tests, if◌then◌else◌}
 use Rattle.std.proofs.lemmas.Bool.{lt-ltb}
 use Rattle.std.proofs.lemmas.Bool.Decides.{nat_tests}
@@ -26,9 +26,9 @@ below_none : (gs : List ℕ) (x : ℕ) → RiseFrom x gs → below gs x ≡ 0
 below_none [] x h = refl
 below_none (g ∷ gs) x h = ap (λ b. cond b (1 + below gs x) 0) (not_ltb g x h.0)
 
--- ---- a place after the first that goes, which is at the place n
+-- ---- an index after the first that goes, which is at the index n
 
--- the places, where so many went in front of all these that go
+-- the indexes, where so many went in front of all these that go
 abbrev lowered_by : ℕ → List ℕ → List ℕ → List ℕ
 lowered_by k gs [] = []
 lowered_by k gs (x ∷ xs) = if goes_at x (drop (below gs x) gs) then lowered_by k gs xs else (x - (k + below gs x)) ∷ lowered_by k gs xs
@@ -45,7 +45,7 @@ by_one_more k g gs (x ∷ xs) h =
     one_on : (n : ℕ) → drop (1 + n) (g ∷ gs) ≡ drop n gs
     one_on n = let e : 1 + n ≡ suc n = omega arith in ap (λ m. drop m (g ∷ gs)) e
 
--- the first that goes has no place among the others
+-- the first that goes has no index among the others
 without_first : (k g : ℕ) (gs xs : List ℕ) → lowered_by k (g ∷ gs) (g ∷ xs) ≡ lowered_by k (g ∷ gs) xs
 without_first k g gs xs =
     ap (λ m. if goes_at g (drop m (g ∷ gs)) then lowered_by k (g ∷ gs) xs else (g - (k + m)) ∷ lowered_by k (g ∷ gs) xs) (below_first g)
@@ -71,7 +71,7 @@ with_front k x m gs xs h is =
         apart : (g x : ℕ) → suc x ≤ g → (g == x) ≡ false
         apart g x h = grind (arith, nat_tests)
 
--- ---- the places of the events that stay
+-- ---- the indexes of the events that stay
 
 module _ (p : Event → Bool) where
   cond_gone : (b : Bool) (k g : ℕ) (gs xs : List ℕ) → lowered_by k (g ∷ gs) (cond b (g ∷ xs) xs) ≡ lowered_by k (g ∷ gs) xs
@@ -97,7 +97,7 @@ module _ (p : Event → Bool) where
       ∙ sym (cond_gone (p e) k n gs (places_from (n + 1) p es))
       ∙ ap (lowered_by k (n ∷ gs)) (sym (places_cons n p e es))
 
-  -- where k went in front of the place n, m is what it is now
+  -- where k went in front of the index n, m is what it is now
   gaps_from : (n k m : ℕ) (gs : List ℕ) (es : List Event) → m + k ≡ n → RiseFrom n gs → places_from m p (left_from n gs es) ≡ lowered_by k gs (places_from n p es)
   gaps_from n k m gs [] is rise = refl
   gaps_from n k m [] (e ∷ es) is rise = kept n k m [] e es is tt (gaps_from (n + 1) k (m + 1) [] es (omega (arith, is)) tt)

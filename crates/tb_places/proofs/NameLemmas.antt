@@ -1,4 +1,4 @@
--- The number of a name among those that have one.
+-- The id of a name among those that have one.
 use Rattle.std.proofs.Common.{◌≡◌, ◌<◌, ◌==◌, ◌+◌, ◌++◌, ℕ, suc, List, [], ◌∷◌, Bool, true, false, not, cond, ltb, Option, Some, None, length, get_or, slice_get, is_some, refl, sym, ap, ◌∙◌, subst, arith, rules, tests}
 use Rattle.std.specs.List.{IsDistinct, list_any, position_or_len}
 use Rattle.std.proofs.lemmas.Bool.{true≢false, ltb-true, lt-ltb}
@@ -27,7 +27,7 @@ place_is ks i k distinct at =
         let same : k ≡ get_or ks j k = same_true k (get_or ks j k) h in
         absurd (true≢false (sym (same_refl k) ∙ subst (λ y. same_name y k ≡ false) (sym same) (subst (λ y. same_name (get_or ks j k) y ≡ false) here apart)))
 
--- a name has the number of its place
+-- a name has its index as its id
 pub number_at : (ks : List Name) (i : ℕ) (k t : Name) → IsDistinct same_name ks → slice_get ks i ≡ Some k → same_name k t ≡ true → number_of ks t ≡ Some i
 number_at ks i k t distinct at same =
     let within : i < length ks = slice_get_within ks i k at in
@@ -37,7 +37,7 @@ number_at ks i k t distinct at same =
     there : (n : ℕ) → n ≡ i → i < length ks → cond (ltb n (length ks)) (Some n) None ≡ Some i
     there n h within = grind (arith, nat_tests)
 
--- the name of a number is one alone
+-- the name of an id is one alone
 pub one_number : (ks : List Name) (k : ℕ) (t u : Name) → number_of ks t ≡ Some k → is_in_row k (number_of ks u) ≡ same_name u t
 one_number ks k t u at = by (same_name u t) refl
   where
@@ -58,7 +58,7 @@ one_number ks k t u at = by (same_name u t) refl
                 let y = position-Some (same_name u) ks k [] there in
                 absurd (true≢false (sym (same_refl t) ∙ subst (λ w. same_name w t ≡ false) (same_true u (get_or ks k []) y.1 ∙ sym (same_true t (get_or ks k []) x.1)) h))
 
--- a name without a number is none of those that have one
+-- a name without an id is none of those that have one
 pub no_number : (ks : List Name) (t u : Name) → number_of ks t ≡ None → is_some (number_of ks u) ≡ true → same_name u t ≡ false
 no_number ks t u none some = by (same_name u t) refl
   where
@@ -66,7 +66,7 @@ no_number ks t u none some = by (same_name u t) refl
     by false h = refl
     by true h = absurd (true≢false (sym some ∙ ap is_some (ap (number_of ks) (same_true u t h) ∙ none)))
 
--- a name with a number is among those that have one
+-- a name with an id is among those that have one
 pub numbered : (ks : List Name) (t : Name) → is_some (number_of ks t) ≡ true → list_any (same_name t) ks ≡ true
 numbered ks t some = by (number_of ks t) refl
   where
@@ -76,7 +76,7 @@ numbered ks t some = by (number_of ks t) refl
         let x = position-Some (same_name t) ks k [] e in
         list_any_at (same_name t) ks k [] x.0 x.1
 
--- ---- it keeps its number where others come after it
+-- ---- it retains its id where others come after it
 
 first_grown : (p : Name → Bool) (ks more : List Name) → position_or_len p ks < length ks → position_or_len p (ks ++ more) ≡ position_or_len p ks
 first_grown p [] more w = absurd (omega (arith, w))

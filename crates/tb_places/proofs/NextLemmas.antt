@@ -1,4 +1,4 @@
--- Places rise, and each event that passes the test has one.
+-- Indexes rise, and each event that passes the test has one.
 use Rattle.std.proofs.Common.{◌≡◌, ◌<◌, ◌≤◌, ◌+◌, ◌-◌, ⊎_elim, nat_lt, ltb-true, ℕ, zero, suc, List, [], ◌∷◌, Bool, true, false, cond, Option, Some, None, length, get_or, slice_get, refl, sym, ap, ◌∙◌, subst, arith}
 use Rattle.std.proofs.lemmas.Bool.{cases_Bool, ltb-false}
 use Rattle.std.proofs.lemmas.Option.{get_or_from_slice_get, slice_get-get_or}
@@ -59,7 +59,7 @@ placed n p (x ∷ es) (suc k) e h t = by (p x) refl (placed (n + 1) p es k e h t
 
 -- ---- those that are passed over
 
--- the first so many are in front of the one place, and the others not in front of the other
+-- the first so many are in front of the one index, and the others not in front of the other
 pub passed : (p : Event → Bool) (es : List Event) (ps : List ℕ) (after from to : ℕ) → ps ≡ places_where p es → ((i d : ℕ) → i < after → i < length ps → get_or ps i d < from)
     → ((i d : ℕ) → after ≤ i → i < length ps → to ≤ get_or ps i d) → IsNoneFrom p es from to
 passed p es ps after from to is below behind k e low high here = by (p e) refl

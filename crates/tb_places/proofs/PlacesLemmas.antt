@@ -1,4 +1,4 @@
--- How the places change where an event is added at the end, and where the last is taken off.
+-- How the indexes change where an event is added at the end, and where the last is taken off.
 use Rattle.std.proofs.Common.{◌≡◌, ◌+◌, ℕ, List, [], ◌∷◌, ◌++◌, Bool, false, cond, Some, None, refl, sym, ap, ◌∙◌, is_some}
 use Rattle.std.specs.List.{AllByRecursion}
 use Rattle.tb_model.specs.declared.event.Event.{Event}
@@ -28,7 +28,7 @@ all_parts P (x ∷ xs) ys a =
     let r = all_parts P xs ys a.1 in
     ((a.0, r.0), r.1)
 
--- tests that answer alike find the same places
+-- tests that answer alike find the same indexes
 pub places_alike : (n : ℕ) (p q : Event → Bool) (es : List Event) → AllByRecursion (λ e. p e ≡ q e) es → places_from n p es ≡ places_from n q es
 places_alike n p q [] all = refl
 places_alike n p q (x ∷ es) all =

@@ -1,4 +1,4 @@
--- The room of the rows holds for all events that they have, and stays.
+-- The capacity of the rows holds for all events that they have, and stays.
 use Rattle.std.proofs.Common.{◌≡◌, ◌+◌, ◌≤◌, ℕ, suc, List, [], ◌∷◌, ◌++◌, Bool, true, false, cond, filter, Option, Some, None, length, slice_get, refl, ap, ◌∙◌, arith, Vec, vec_capacity}
 use Rattle.std.specs.declared.alloc.Global.{Global}
 use Rattle.std.specs.Option.{option_map_or}
@@ -65,9 +65,9 @@ rows_without number xs ys e r room k =
     let p = is_of_row number k in
     omega (arith, room k, count_append p xs (e ∷ ys), count_append p xs ys, count_cons p e ys)
 
--- ---- the places
+-- ---- the indexes
 
--- there is room for the events that are there
+-- there is capacity for the events that are there
 pub room_of_index : (names : List Name) (es : List Event) (p : Places) → IsIndexOf names es p → HasRoomForAll names es p
 room_of_index names es p index = record {
   named = index.named;
@@ -82,7 +82,7 @@ room_next names xs ys e p index room = record {
   mark = row_next event_mark xs ys e p.marks index.marks room.marks;
 }
 
--- room for all of the events is room for all but one
+-- capacity for all of the events is capacity for all but one
 pub room_without : (names : List Name) (xs ys : List Event) (e : Event) (p : Places) → HasRoomForAll names (xs ++ e ∷ ys) p → HasRoomForAll names (xs ++ ys) p
 room_without names xs ys e p room = record {
   named =
@@ -103,7 +103,7 @@ room_kept names es old new keeps room = record {
 pub named_next : (names : List Name) (xs ys : List Event) (e : Event) (p : Places) → HasRoomForAll names (xs ++ e ∷ ys) p → IsNamed names e
 named_next names xs ys e p room = (all_parts (IsNamed names) xs (e ∷ ys) room.named).1.0
 
--- ---- no room is lost
+-- ---- no capacity is lost
 
 room_at_kept : (old new : Rows) → ((k : ℕ) → row_of new k ≡ row_of old k) → GrowsRooms old new → (n : Option ℕ) → HasRoomAt old n → HasRoomAt new n
 room_at_kept old new same grows None h = tt

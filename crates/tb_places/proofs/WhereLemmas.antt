@@ -1,4 +1,4 @@
--- How the places change where an event is added at the end.
+-- How the indexes change where an event is added at the end.
 use Rattle.std.proofs.Common.{◌≡◌, ◌+◌, ℕ, List, [], ◌∷◌, ◌++◌, append-nil, Bool, true, false, cond, map, filter, length, refl, sym, ap, ◌∙◌, arith}
 use Rattle.std.specs.List.{enumerate_from}
 use Rattle.tb_model.specs.declared.event.Event.{Event}
@@ -15,7 +15,7 @@ cond_append : (b : Bool) (n : ℕ) (rest last : List ℕ) → cond b (n ∷ (res
 cond_append true n rest last = refl
 cond_append false n rest last = refl
 
--- the place of the event behind the others, if it passes
+-- the index of the event after the others, if it passes
 abbrev last_place : (Event → Bool) → Event → ℕ → List ℕ
 last_place p e k = cond (p e) (k ∷ []) []
 

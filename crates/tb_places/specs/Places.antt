@@ -1,4 +1,4 @@
--- What is kept of where events stand: for each task, for each cell, and for the output.
+-- What is stored of where events are: for each task, for each cell, and for the output.
 use Rattle.std.specs.Prelude.{◌≡◌, ◌≤◌, ℕ, suc, List, true, Option, Some, None, is_some, length, filter}
 use Rattle.std.specs.List.{AllByRecursion}
 use Rattle.tb_model.specs.declared.action.Action.{Action}
@@ -9,7 +9,7 @@ use Rattle.tb_places.specs.declared.places.Places.{Places}
 use Rattle.tb_places.specs.Numbers.{number_of}
 use Rattle.tb_places.specs.Rows.{room_of, HasRoomAt, is_of_row, AreRows, KeepsRooms}
 
--- the number of the action's row among the marks: the output's is the first, then comes each cell's
+-- the index of the action's row among the marks: the output's is the first, then comes each cell's
 abbrev pub mark_of : Action → Option ℕ
 mark_of (Load r c x) = Some (suc c)
 mark_of (Store c x) = Some (suc c)
@@ -26,25 +26,25 @@ event_number names e = number_of names e.task
 abbrev pub IsNamed : List Name → Event → Type 0
 IsNamed names e = is_some (event_number names e) ≡ true
 
--- ---- the rows are those of these events, the oldest first, where each task has the number of its name among these
+-- ---- the rows are those of these events, the oldest first, where each task has the id of its name among these
 
 pub record IsIndexOf (names : List Name) (events : List Event) (p : Places) : Type 0 where
   pub named : AllByRecursion (IsNamed names) events
   pub own : AreRows (event_number names) events p.own
   pub marks : AreRows event_mark events p.marks
 
--- ---- room
+-- ---- capacity
 
--- the places of an event with this action, whose task has this number, take no memory
+-- the indexes of an event with this action, whose task has this id, take no memory
 pub record HasRoomAs (p : Places) (number : Option ℕ) (a : Action) : Type 0 where
   pub own : HasRoomAt p.own number
   pub mark : HasRoomAt p.marks (mark_of a)
 
--- the places of an event take no memory, where its task's number is that of its name among these
+-- the indexes of an event take no memory, where its task's id is that of its name among these
 abbrev pub HasRoomFor : List Name → Places → Event → Type 0
 HasRoomFor names p e = HasRoomAs p (event_number names e) e.action
 
--- nor do those of all of these
+-- the indexes of all of these events take no memory
 pub record HasRoomForAll (names : List Name) (events : List Event) (p : Places) : Type 0 where
   pub named : AllByRecursion (IsNamed names) events
   pub own : (k : ℕ) → length (filter (is_of_row (event_number names) k) events) ≤ room_of p.own k

@@ -1,10 +1,10 @@
-//! The places of one row, where some events go: the places of these go too, and each other is lower by
-//! as many as go in front of it.
+//! The indexes of one row, where some events go: the indexes of these go too, and each other is
+//! lower by as many as go in front of it.
 
 ghost use Rattle.std.specs.Prelude.{◌≡◌, ◌≤◌, ◌<◌, ◌++◌, IsTrue, length, take, drop, get_or, vec_len, vec_capacity};
 ghost use Rattle.tb_places.specs.Renumbering.{RiseFrom, below, goes_at, lowered};
 
-/// Closes the gaps that the events at the going places leave.
+/// Closes the gaps that the events at the going indexes leave.
 pub fn close(row: &mut Vec<u32>, going: &[u32])
     requires going { RiseFrom 0 going.now }
     requires places { RiseFrom 0 row.old.items }
@@ -22,7 +22,7 @@ pub fn close(row: &mut Vec<u32>, going: &[u32])
     }
 }
 
-/// How many of the places are in front of all that go: they stay as they are.
+/// How many of the indexes are in front of all that go: they stay as they are.
 #[inline(always)]
 fn in_front(places: &[u32], going: &[u32]) -> usize
     requires { RiseFrom 0 places.now }
@@ -42,7 +42,7 @@ fn in_front(places: &[u32], going: &[u32]) -> usize
     places.partition_point(|place| *place < *first)
 }
 
-/// Whether there are places, and all are behind all that go.
+/// Whether there are indexes, and all are after all that go.
 #[inline(always)]
 fn all_follow(places: &[u32], going: &[u32]) -> bool
     requires { RiseFrom 0 going.now }
@@ -54,7 +54,7 @@ fn all_follow(places: &[u32], going: &[u32]) -> bool
     }
 }
 
-/// Lowers places of which the first is behind all that go.
+/// Lowers indexes of which the first is after all that go.
 #[inline(always)]
 fn lower_all(places: &mut [u32], going: &[u32])
     requires going { RiseFrom 0 going.now }
@@ -102,7 +102,7 @@ fn lower(places: &mut [u32], from: usize, going: &[u32]) -> usize
     stay
 }
 
-/// How many that go are in front of the place, where so many are.
+/// How many that go are in front of the index, where so many are.
 #[inline(always)]
 fn passed(going: &[u32], next: usize, place: u32) -> usize
     requires rise { RiseFrom 0 going.now }
@@ -115,7 +115,8 @@ fn passed(going: &[u32], next: usize, place: u32) -> usize
     }
 }
 
-/// Looks further and further ahead, so that far as well as near is found in few looks.
+/// Looks further and further ahead, so that what is far as well as what is close is found in few
+/// looks.
 fn leap(going: &[u32], next: usize, place: u32) -> usize
     requires rise { RiseFrom 0 going.now }
     requires next { next ≤ below going.now place }
@@ -131,7 +132,7 @@ fn leap(going: &[u32], next: usize, place: u32) -> usize
     from + going[from..to].partition_point(|gone| *gone < place)
 }
 
-/// Whether the next that goes is the one at this place.
+/// Whether the next that goes is the one at this index.
 #[inline(always)]
 fn goes(going: &[u32], next: usize, place: u32) -> bool
     ensures goes { result ≡ goes_at place (drop next going.now) }

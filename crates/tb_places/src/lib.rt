@@ -1,4 +1,4 @@
-//! Where the events of a history stand: for each task, for each cell, and for the output.
+//! Where the events of a history are: for each task, for each cell, and for the output.
 #![tactic(auto)]
 
 mod gaps;

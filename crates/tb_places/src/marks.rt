@@ -5,7 +5,7 @@ ghost use Rattle.tb_places.specs.Places;
 
 use tb_model::Action;
 
-/// The number of the action's row: the output's is the first, then comes each cell's.
+/// The index of the action's row: the output's is the first, then comes each cell's.
 #[inline(always)]
 pub fn mark_of(action: &Action) -> Option<usize>
     ensures { result ≡ Places.mark_of action.now }

@@ -1,10 +1,10 @@
-//! The next of some places, and the last.
+//! The next of some indexes, and the last.
 
 ghost use Rattle.std.specs.Prelude.{◌≡◌, ◌≤◌, Bool, List, IfSome, IfNone};
 ghost use Rattle.tb_model.specs.declared.event.Event.{Event as AnEvent};
 ghost use Rattle.tb_places.specs.Where.{places_where, IsLastBefore, IsNoneFrom};
 
-/// The first of these places, which rise, from the place `from` on; the end where there is none.
+/// The first of these indexes, which rise, from the index `from` on; the end where there is none.
 pub fn next_place(places: &[u32], from: usize, end: usize) -> usize
     requires { from ≤ end }
     ensures from { from ≤ result }
@@ -19,7 +19,7 @@ pub fn next_place(places: &[u32], from: usize, end: usize) -> usize
     }
 }
 
-/// The last of these places, which rise, in front of the place `before`.
+/// The last of these indexes, which rise, in front of the index `before`.
 pub fn last_place(places: &[u32], before: usize) -> Option<usize>
     ensures some { (p : AnEvent → Bool) (events : List AnEvent) → places.now ≡ places_where p events →
         IfSome result (IsLastBefore p events before) }

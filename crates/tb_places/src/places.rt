@@ -1,4 +1,4 @@
-//! The places of a history's events.
+//! The indexes of a history's events.
 
 ghost use Rattle.std.specs.Prelude.{◌≡◌, ◌+◌, ◌++◌, ◌∷◌, [], ℕ, List, Option, OnOk, IsOk, length};
 ghost use Rattle.tb_model.specs.Names.{Name};
@@ -15,12 +15,12 @@ use crate::rows::Rows;
 use std::alloc::{AllocError, Global};
 use tb_model::Action;
 
-/// Where the events of a history stand: those of each task, those that load from a cell or store to
-/// it, and those that print. Neither the history nor the tasks' names are kept here: a task is given by a
-/// number, which is its own for good.
+/// Where the events of a history are: those of each task, those that load from a cell or store to
+/// it, and those that print. Neither the history nor the tasks' names are stored here: a task is
+/// given by an id, which is its own for good.
 #[derive(Drop)]
 pub struct Places {
-    // the row of each task has its number
+    // the row of each task has its id
     own: Rows,
     // the output's row is the first, then comes each cell's
     marks: Rows,
@@ -36,7 +36,7 @@ impl Places {
         }
     }
 
-    /// The places of the events of the task with this number, rising. One without a number has none.
+    /// The indexes of the events of the task with this id, rising. One without an id has none.
     pub fn events_of(&self, number: Option<usize>) -> &[u32]
         ensures { (names : List Name) (task : Name) (events : List AnEvent) → number ≡ number_of names task →
             IsIndexOf names events self.now → result.now ≡ places_where (is_of task) events }
@@ -47,7 +47,7 @@ impl Places {
         }
     }
 
-    /// The places of the cell's loads and stores, rising.
+    /// The indexes of the cell's loads and stores, rising.
     pub fn touches(&self, cell: u32) -> &[u32]
         ensures { (names : List Name) (events : List AnEvent) → IsIndexOf names events self.now →
             result.now ≡ places_where (λ e. touches cell e.action) events }
@@ -55,7 +55,7 @@ impl Places {
         self.marks.row(cell as usize + 1)
     }
 
-    /// The places of the prints, rising.
+    /// The indexes of the prints, rising.
     pub fn prints(&self) -> &[u32]
         ensures { (names : List Name) (events : List AnEvent) → IsIndexOf names events self.now →
             result.now ≡ places_where (λ e. is_print e.action) events }
@@ -70,8 +70,9 @@ impl Places {
         self.own.len() + self.marks.len()
     }
 
-    /// Forgets the places of the events that go, which are at these places, and lowers those of the events
-    /// behind them. It takes no memory. Each row is gone over, but only behind the first that goes.
+    /// Forgets the indexes of the events that go, which are at these indexes, and lowers those of
+    /// the events after them. It takes no memory. Each row is gone over, but only after the first
+    /// that goes.
     pub fn close_gaps(&mut self, going: &[u32])
         requires going { RiseFrom 0 going.now }
         requires index { (names : List Name) × ((events : List AnEvent) ×
@@ -84,7 +85,7 @@ impl Places {
         self.marks.close_gaps(going);
     }
 
-    /// Makes room for the places of an event with this action, whose task has this number.
+    /// Reserves capacity for the indexes of an event with this action, whose task has this id.
     #[inline(always)]
     pub fn reserve(&mut self, number: Option<usize>, action: &Action) -> Result<(), AllocError>
         ensures same { (names : List Name) (events : List AnEvent) → IsIndexOf names events self.old →
@@ -97,7 +98,8 @@ impl Places {
         self.marks.reserve_at(mark_of(action))
     }
 
-    /// Notes the place of an event that comes after all others, has this action, and whose task has this number.
+    /// Notes the index of an event that comes after all others, has this action, and whose task has
+    /// this id.
     #[inline(always)]
     pub fn push_reserved(&mut self, number: Option<usize>, action: &Action, at: u32)
         requires { HasRoomAs self.old number action.now }
@@ -110,7 +112,8 @@ impl Places {
         self.marks.push_at(mark_of(action), at);
     }
 
-    /// Forgets the place of the last event, which has this action, and whose task has this number. Its room stays.
+    /// Forgets the index of the last event, which has this action, and whose task has this id. Its
+    /// capacity stays.
     pub fn pop(&mut self, number: Option<usize>, action: &Action)
         ensures popped { (names : List Name) (events : List AnEvent) (e : AnEvent) → e.action ≡ action.now →
             number ≡ event_number names e → IsIndexOf names (events ++ e ∷ []) self.old →

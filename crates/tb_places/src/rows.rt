@@ -1,4 +1,4 @@
-//! Rows of places. A row that isn't there is an empty one.
+//! Rows of indexes. A row that isn't there is an empty one.
 
 ghost use Rattle.std.specs.Prelude.{◌≡◌, ◌≢◌, ◌<◌, ◌≤◌, ◌+◌, ◌++◌, ◌∷◌, [], ℕ, List, Option, OnOk, IsOk, length, vec_len, vec_capacity};
 ghost use Rattle.tb_model.specs.declared.event.Event.{Event as AnEvent};
@@ -8,7 +8,7 @@ ghost use Rattle.tb_places.specs.Rows.{row_of, room_of, HasRoom, HasRoomAt, AreR
 use crate::gaps::close;
 use std::alloc::{AllocError, Global};
 
-/// Rows by their numbers, from 0. Which events have which row isn't known here.
+/// Rows by their ids, from 0. Which events have which row isn't known here.
 #[derive(Drop)]
 pub struct Rows {
     alloc: Global,
@@ -34,7 +34,7 @@ impl Rows {
         }
     }
 
-    /// Makes room for one more place in the row, where there is one.
+    /// Reserves capacity for one more index in the row, where there is one.
     #[inline(always)]
     pub fn reserve_at(&mut self, n: Option<usize>) -> Result<(), AllocError>
         ensures same { (k : ℕ) → row_of self.new k ≡ row_of self.old k }
@@ -48,7 +48,7 @@ impl Rows {
         }
     }
 
-    /// Notes the place of an event that comes after all others.
+    /// Notes the index of an event that comes after all others.
     #[inline(always)]
     pub fn push_at(&mut self, n: Option<usize>, place: u32)
         requires { HasRoomAt self.old n }
@@ -63,7 +63,7 @@ impl Rows {
         }
     }
 
-    /// Forgets the place of the last event.
+    /// Forgets the index of the last event.
     pub fn pop_at(&mut self, n: Option<usize>)
         ensures popped { (number : AnEvent → Option ℕ) (events : List AnEvent) (e : AnEvent) →
             AreRows number (events ++ e ∷ []) self.old → number e ≡ n →
@@ -83,7 +83,7 @@ impl Rows {
         self.rows.len()
     }
 
-    /// Forgets the places of the events that go, and lowers those behind them.
+    /// Forgets the indexes of the events that go, and lowers those after them.
     pub fn close_gaps(&mut self, going: &[u32])
         requires going { RiseFrom 0 going.now }
         requires places { (k : ℕ) → RiseFrom 0 (row_of self.old k) }
@@ -128,7 +128,7 @@ impl Rows {
         self.rows[n].push_reserved(place);
     }
 
-    /// Takes the last place of the row off.
+    /// Takes the last index of the row off.
     fn pop(&mut self, n: usize)
         ensures row { (ps : List ℕ) (p : ℕ) → row_of self.old n ≡ ps ++ p ∷ [] →
             row_of self.new n ≡ ps }
@@ -155,7 +155,7 @@ impl Rows {
     }
 }
 
-/// Makes room for one more place, mostly without a call.
+/// Reserves capacity for one more index, mostly without a call.
 #[inline(always)]
 fn reserve_one(row: &mut Vec<u32>) -> Result<(), AllocError>
     ensures items { row.new.items ≡ row.old.items }

@@ -30,7 +30,7 @@ is_place cells All = true
 abbrev pub are_places : Cells → List Item → Bool
 are_places cells items = list_all (λ i. is_place cells i.place) items
 
--- the number behind k
+-- the ordinal after k
 abbrev pub is_behind : Name → ℕ → Bool
 is_behind [] k = false
 is_behind (n ∷ t) k = n == suc k
@@ -64,7 +64,7 @@ has_ended H u = list_any (ends u) H
 abbrev pub is_past : History → Name → Name → Bool
 is_past H t u = not (before H u t) || has_ended H u
 
--- u, where it is apart from t, isn't under way
+-- u, where it excludes t, isn't under way
 abbrev pub is_aside : History → Name → Name → Bool
 is_aside H t u = not (apart H u t) || (not (list_any (starts u) H) || has_ended H u)
 

@@ -69,7 +69,7 @@ pub fn own(alloc: Global, history: &[Event], t: &TaskName) -> Result<Vec<Action>
     }
 }
 
-/// The number of the last store to the cell, else its first number.
+/// The value of the last store to the cell, else its first value.
 pub fn last(history: &[Event], first: i64, cell: u32) -> i64
     ensures { result ≡ Facts.last first cell history.now }
 {

@@ -175,7 +175,7 @@ fn all_follow(alloc: Global, cells: &[i64], history: &[Event]) -> Result<bool, A
     }
 }
 
-/// Whether the event may be the next one behind the history.
+/// Whether the event may be the next one after the history.
 pub fn may_follow(
     alloc: Global,
     cells: &[i64],

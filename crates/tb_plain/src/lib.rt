@@ -1,4 +1,4 @@
-//! The definitions of a history, run as they stand: slow and plain, to compare faster programs with.
+//! The definitions of a history, run as they are: slow and plain, to compare faster programs with.
 //! A history is a slice of events from the newest to the oldest, as the definitions list it, and so
 //! are the actions of a task.
 #![tactic(auto)]

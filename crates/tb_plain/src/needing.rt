@@ -9,7 +9,7 @@ use crate::own_actions::{holds, is_member};
 use std::alloc::{AllocError, Global};
 use tb_model::{Action, Event, StepId, TaskName};
 
-/// Whether the action of `t` behind the history waits for the end of `u`.
+/// Whether the action of `t` after the history waits for the end of `u`.
 fn waits_for(
     alloc: Global,
     history: &[Event],
@@ -30,7 +30,7 @@ fn waits_for(
     }
 }
 
-/// Whether an event of `t` behind the history comes behind the end of `u`.
+/// Whether an event of `t` after the history comes after the end of `u`.
 fn needs_end_of(
     alloc: Global,
     history: &[Event],
@@ -44,7 +44,7 @@ fn needs_end_of(
     Ok(holds(acts.as_slice(), u) || waits_for(alloc, history, t, action, u)?)
 }
 
-/// Whether `v`, which stands behind the history, directly needs its event `u`.
+/// Whether `v`, which is after the history, directly needs its event `u`.
 pub fn needs(alloc: Global, history: &[Event], v: &Event, u: &Event) -> Result<bool, AllocError>
     ensures { IfOk result (λ yes. yes ≡ Needs.needs history.now v.now u.now) }
 {
@@ -75,7 +75,7 @@ fn needs_some(
     }
 }
 
-/// Whether `v`, which stands behind the history, is the step.
+/// Whether `v`, which is after the history, is the step.
 pub fn is_step(
     alloc: Global,
     step: &StepId,
@@ -117,7 +117,7 @@ pub fn removed(alloc: Global, step: &StepId, history: &[Event]) -> Result<Vec<Ev
     }
 }
 
-/// Whether `v`, which stands behind the history, is the step or needs it.
+/// Whether `v`, which is after the history, is the step or needs it.
 pub fn is_removed(
     alloc: Global,
     step: &StepId,

@@ -68,7 +68,7 @@ pub fn is_member(alloc: Global, acts: &[Action], m: &TaskName) -> Result<bool, A
     }
 }
 
-/// The open groups, the innermost first, each by the number of the step that opened it.
+/// The open groups, the innermost first, each by the ordinal of the step that opened it.
 pub fn open_groups(alloc: Global, acts: &[Action]) -> Result<Vec<usize>, AllocError>
     ensures { IfOk result (λ opened. opened.items ≡ State.open_groups acts.now) }
 {
@@ -90,7 +90,7 @@ pub fn open_groups(alloc: Global, acts: &[Action]) -> Result<Vec<usize>, AllocEr
     }
 }
 
-/// The children that the actions behind the kth generated, the newest first.
+/// The children that the actions after the kth generated, the newest first.
 pub fn children_since(alloc: Global, k: usize, acts: &[Action]) -> Result<Names, AllocError>
     ensures { IfOk result (λ children. children ≡ State.children_since k acts.now) }
 {

@@ -33,7 +33,7 @@ fn are_places(cells: &[i64], items: &[Item]) -> bool
     items.iter().all(|item| is_place(cells, item.place))
 }
 
-/// Whether it is the number behind `k` that the name ends in.
+/// Whether it is the ordinal after `k` that the name ends in.
 fn is_behind(u: &TaskName, k: usize) -> bool
     ensures { result ≡ Decided.is_behind u.now k }
 {
@@ -49,7 +49,7 @@ fn is_next_child(t: &TaskName, acts: &[Action], u: &TaskName) -> bool
     t.is_parent_of(u) && is_behind(u, spawn_count(acts))
 }
 
-/// Whether a task may do this behind its own actions.
+/// Whether a task may do this after its own actions.
 pub(crate) fn continues(
     alloc: Global,
     cells: &[i64],

@@ -9,14 +9,14 @@ use crate::state::spawn_of;
 use std::alloc::{AllocError, Global};
 use tb_model::{Action, Event, TaskName};
 
-/// The first number of the cell, 0 where there is no such cell.
+/// The first value of the cell, 0 where there is no such cell.
 pub fn first_number(cells: &[i64], cell: u32) -> i64
     ensures { result ≡ first_number cells.now cell }
 {
     cells.get(cell as usize).copied().unwrap_or(0)
 }
 
-/// The number in the register of a task with these arguments and actions.
+/// The value in the register of a task with these arguments and actions.
 pub fn register(r: u8, args: &[i64], acts: &[Action]) -> i64
     ensures { result ≡ Records.register r args.now acts.now }
 {
@@ -42,7 +42,7 @@ fn args_in(spawn: Option<&Action>) -> &[i64]
     }
 }
 
-/// The number in the register of the task.
+/// The value in the register of the task.
 pub fn register_of(alloc: Global, history: &[Event], t: &TaskName, r: u8) -> Result<i64, AllocError>
     ensures { IfOk result (λ number. number ≡ Records.register_of t.now r history.now) }
 {
@@ -50,7 +50,7 @@ pub fn register_of(alloc: Global, history: &[Event], t: &TaskName, r: u8) -> Res
     Ok(register(r, args_in(spawn_of(history, t)), acts.as_slice()))
 }
 
-/// The number that the event replaces behind the history: a store its cell's, a `let` or a `load` its
+/// The value that the event replaces after the history: a store its cell's, a `let` or a `load` its
 /// register's.
 pub fn replaced_by(
     alloc: Global,

@@ -24,7 +24,7 @@ pub fn status_of(acts: &[Action]) -> Status
     }
 }
 
-/// The numbers that were printed, the newest first.
+/// The values that were printed, the newest first.
 pub fn printed(alloc: Global, history: &[Event]) -> Result<Vec<i64>, AllocError>
     ensures { IfOk result (λ numbers. numbers.items ≡ State.printed history.now) }
 {
@@ -111,7 +111,7 @@ pub fn is_unended_member_of(
     Ok(is_member_of(alloc, k, acts.as_slice(), m)? && is_unended(history, m))
 }
 
-/// Whether `u` is the undeferred child at which `t` stands, and hasn't ended.
+/// Whether `u` is the undeferred child for which `t` waits, and hasn't ended.
 pub fn is_unended_undeferred(
     alloc: Global,
     history: &[Event],

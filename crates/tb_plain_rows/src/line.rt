@@ -5,7 +5,7 @@ use tb_model::{
     Action, Args, Event, Item, Items, Kind, Place, Spawn, Spawned, StepId, TaskName, WaitItems,
 };
 
-/// A step's number and what it did, or nothing where the words are no step's line. A body is known
+/// A step's ordinal and what it did, or nothing where the words are no step's line. A body is known
 /// by its first letter.
 pub(crate) fn step(alloc: Global, words: &[&str]) -> Result<Option<(StepId, Event)>, AllocError> {
     let [first, others @ ..] = words else {
@@ -110,7 +110,7 @@ struct Clauses {
     deferred: bool,
 }
 
-/// What stands behind the body's name: arguments, items, and whether the task is deferred.
+/// What is after the body's name: arguments, items, and whether the task is deferred.
 fn clauses_of(alloc: Global, words: &[&str]) -> Result<Option<Clauses>, AllocError> {
     let mut args = Args::new(alloc);
     let mut items = Items::new(alloc);

@@ -7,7 +7,7 @@ use tb_model::{Action, Event, StepId};
 use tb_plain::{is_legal, is_removed, last, own, printed, removed, without};
 use tb_view::write_step;
 
-/// The cells' first numbers, and the events from the newest.
+/// The cells' first values, and the events from the newest.
 #[derive(Drop)]
 pub(crate) struct Run {
     alloc: Global,

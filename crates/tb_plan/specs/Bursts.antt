@@ -11,7 +11,7 @@ use Rattle.tb_plan.specs.declared.strip.Strip.{Strip}
 use Rattle.tb_plan.specs.Plans.{instruction, line_behind}
 use Rattle.tb_plan.specs.Strips.{strip_at}
 
--- the registers behind an action that is private: a `let` sets one, a test none
+-- the registers after an action that is private: a `let` sets one, a test none
 abbrev pub regs_by : List ℤ → Action → Option (List ℤ)
 regs_by regs (Let r x) = Some (slice_set regs r x)
 regs_by regs (Test answer) = Some regs
@@ -20,20 +20,20 @@ regs_by regs _ = None
 abbrev pub regs_behind : Plan → Option (List ℤ)
 regs_behind p = regs_by p.config.regs p.action
 
--- the task's situation behind the plan, with these registers
+-- the task's situation after the plan, with these registers
 abbrev pub config_with : Plan → List ℤ → Config
 config_with p regs = record { task = p.config.task; steps = suc p.config.steps; at = line_behind p.instr p.config p.action; regs = regs }
 
--- the task's situation behind a private action, where its number of steps is one of 32 bits
+-- the task's situation after a private action, where its count of steps is one of 32 bits
 abbrev pub config_behind : Plan → Option Config
 config_behind p = if nat_lt p.config.steps 4294967295 then option_map (config_with p) (regs_behind p) else None
 
--- what stands in the strip where the task stands then
+-- what is in the strip where the task is then
 abbrev pub found : Strip → Option Config → Option Instruction
 found s None = None
 found s (Some c) = strip_at s c.at
 
--- the plan of the private statement that the task takes behind the plan p, where it stands in the strip
+-- the plan of the private statement that the task takes after the plan p, where it is in the strip
 abbrev pub IsFollower : Strip → Plan → Option Plan → Type 0
 IsFollower s p None = found s (config_behind p) ≡ None
 IsFollower s p (Some q) = (config_behind p ≡ Some q.config) × (strip_at s q.config.at ≡ Some (instruction q.instr)) × (q.instr.cells ≡ p.instr.cells)

@@ -34,7 +34,8 @@ is_place cells All = true
 abbrev pub is_placed : ℕ → Item → Bool
 is_placed cells i = is_place cells i.place
 
--- its registers are r0 to r15, its cells are those of the program, and it has at most 16 arguments
+-- the registers of the action are r0 to r15, its cells are those of the program, and it has at most
+-- 16 arguments
 abbrev pub names_allowed : ℕ → Action → Bool
 names_allowed cells Start = true
 names_allowed cells (Let r x) = nat_lt r 16

@@ -5,7 +5,7 @@ use Rattle.tb_model.specs.declared.statement.Statement.TheVariants.{Let as DoLet
 use Rattle.tb_plan.specs.declared.private.Private.{Private}
 use Rattle.tb_plan.specs.declared.private.Private.TheVariants.{Let, Compute, Test}
 
--- it reads and writes registers of its task, and nothing else
+-- the statement reads and writes registers of its task, and nothing else
 abbrev pub is_private : Statement → Bool
 is_private (DoLet r a) = true
 is_private (DoCompute r a o b) = true

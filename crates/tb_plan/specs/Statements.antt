@@ -32,7 +32,7 @@ is_sound_address All = true
 abbrev pub is_sound_clause : Clause → Bool
 is_sound_clause c = is_sound_address c.address
 
--- its registers are r0 to r15, and it has at most 16 arguments
+-- the registers of the statement are r0 to r15, and it has at most 16 arguments
 abbrev pub is_sound : Statement → Bool
 is_sound Start = true
 is_sound (Let r a) = is_register r && is_sound_operand a

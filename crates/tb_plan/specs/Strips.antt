@@ -1,4 +1,4 @@
--- Private statements that stand near one another.
+-- Private statements that are close to one another.
 use Rattle.std.specs.Prelude.{ℕ, ◌-◌, nat_le, Option, Some, None, slice_index_or, if◌then◌else◌}
 use Rattle.std.specs.Option.{option_map}
 use Rattle.tb_model.specs.Program.{Instr as Instruction}

@@ -12,7 +12,7 @@ use crate::strip::Strip;
 use std::alloc::{AllocError, Global};
 use tb_model::Action;
 
-/// The task's registers behind a `let` or a test.
+/// The task's registers after a `let` or a test.
 fn regs_behind(plan: &Plan) -> Option<[i64; 16]>
     ensures { result ≡ regs_behind plan.now }
 {
@@ -27,7 +27,7 @@ fn regs_behind(plan: &Plan) -> Option<[i64; 16]>
     }
 }
 
-/// The task's situation behind a `let` or a test, where its steps can be counted.
+/// The task's situation after a `let` or a test, where its steps can be counted.
 fn config_behind(plan: &Plan) -> Result<Option<Config>, AllocError>
     ensures { IfOk result (λ c. c ≡ config_behind plan.now) }
 {
@@ -45,7 +45,7 @@ fn config_behind(plan: &Plan) -> Result<Option<Config>, AllocError>
     }))
 }
 
-/// Evaluates the statement of an instruction for the task that stands at its line.
+/// Evaluates the statement of an instruction for the task that is at its line.
 fn planned(alloc: Global, instr: Instr, config: Config) -> Result<Plan, AllocError>
     requires { instr.line ≡ config.at }
     ensures instr { IfOk result (λ p. p.instr ≡ instr) }
@@ -73,7 +73,7 @@ fn follower(alloc: Global, strip: &Strip, plan: &Plan) -> Result<Option<Plan>, A
     Ok(Some(planned(alloc, instr, config)?))
 }
 
-/// Evaluates the statement of an instruction for the task that stands at its line, and the private
+/// Evaluates the statement of an instruction for the task that is at its line, and the private
 /// statements of the strip that follow it.
 pub fn plan_burst(
     alloc: Global,

@@ -1,9 +1,9 @@
-//! Where a task stands.
+//! Where a task is.
 
 use tb_model::TaskName;
 
-/// A task's own situation: the steps that it has taken, the line at which it stands, its registers.
-/// A task that hasn't started stands at its `body` line.
+/// A task's own situation: the steps that it has taken, the line at which it is, its registers. A
+/// task that hasn't started is at its `body` line.
 #[derive(Clone, Debug, Drop)]
 pub struct Config {
     pub task: TaskName,

@@ -19,7 +19,7 @@ use tb_model::{
     Spawn, Spawned, Statement, TaskName, WaitItems,
 };
 
-/// The number of an operand.
+/// The value of an operand.
 #[inline(always)]
 fn value(regs: &[i64; 16], operand: Operand) -> i64
     ensures { result ≡ value regs.now operand }
@@ -145,7 +145,7 @@ fn let_action(reg: u8, value: i64) -> Action
     Action::Let { reg, value }
 }
 
-/// A load of the cell at an address. The number is read when the step is taken.
+/// A load of the cell at an address. The number is read when the step is executed.
 fn load_action(cells: u32, regs: &[i64; 16], reg: u8, address: Operand) -> Action
     requires { reg < 16 }
     ensures evaluated { (all : List ℤ) (t : List ℕ) → length all ≡ cells → result ≡ action_of all t 1 regs.now zero_ℤ (AsLoad reg address) }
@@ -285,8 +285,8 @@ pub fn evaluate(
     action(alloc, &instr.statement, instr.cells, task, regs)
 }
 
-/// The line at which the action leaves a task that stood at this one, at the instruction. A task that
-/// is over keeps its line.
+/// The line at which the action leaves a task that was at this one, at the instruction. A task that
+/// is over retains its line.
 #[inline]
 pub fn line_behind(instr: &Instr, at: u32, action: &Action) -> u32
     ensures { (c : Situation) → c.at ≡ at → result ≡ line_behind instr.now c action.now }
@@ -298,7 +298,7 @@ pub fn line_behind(instr: &Instr, at: u32, action: &Action) -> u32
     }
 }
 
-/// Evaluates the statement of an instruction for the task that stands at its line.
+/// Evaluates the statement of an instruction for the task that is at its line.
 pub fn plan(alloc: Global, instr: &Instr, config: &Config) -> Result<Plan, AllocError>
     requires { instr.now.line ≡ config.now.at }
     ensures instr { IfOk result (λ p. p.instr ≡ instr.now) }

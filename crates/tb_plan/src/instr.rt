@@ -7,8 +7,8 @@ use std::alloc::AllocError;
 use std::mem::size_of;
 use tb_model::Statement;
 
-/// The statement at a line, the lines that follow (`otherwise` behind a test that says no), and the
-/// number of cells of the program.
+/// The statement at a line, the lines that follow (`otherwise` after a test that says no), and the
+/// count of cells of the program.
 #[derive(Debug, Drop)]
 pub struct Instr {
     pub statement: Statement,
@@ -20,7 +20,7 @@ pub struct Instr {
     pub ghost sound: { IsTrue (is_sound statement) },
 }
 
-// a program keeps as many as it has lines
+// a program retains as many as it has lines
 const _: () = prove!(size_of::<Option<Instr>>() == 80);
 
 impl Clone for Instr {

@@ -8,8 +8,9 @@ use crate::evaluation::line_behind;
 use crate::instr::Instr;
 use tb_model::Action;
 
-/// What a task does next: its instruction, its situation, and the action that the statement makes of
-/// the two. A load has the number 0, and a spawned task is the first child, until the step is taken.
+/// What a task does next: its instruction, its situation, and the action that the statement makes
+/// of the two. A load has the value 0, and a spawned task is the first child, until the step is
+/// executed.
 #[derive(Debug, Drop)]
 pub struct Plan {
     pub instr: Instr,
@@ -21,7 +22,7 @@ pub struct Plan {
 }
 
 impl Plan {
-    /// The line at which the task stands behind the action. One that is over keeps its line.
+    /// The line at which the task is after the action. One that is over retains its line.
     pub fn to(&self) -> u32
         ensures { result ≡ line_behind self.now.instr self.now.config self.now.action }
     {

@@ -9,7 +9,7 @@ use crate::instr::Instr;
 use crate::private::Private;
 use crate::private_line::PrivateLine;
 
-/// What stands at the instruction's line, where it is private.
+/// What is at the instruction's line, where it is private.
 pub fn private_of(instr: &Instr) -> Option<PrivateLine>
     ensures { option_map instruction_of result ≡ private_instr (instruction instr.now) }
 {

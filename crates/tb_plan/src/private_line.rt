@@ -6,7 +6,8 @@ ghost use Rattle.tb_plan.specs.Statements.{is_sound};
 
 use crate::private::Private;
 
-/// The private statement of a line, and the lines that follow (`otherwise` behind a test that says no).
+/// The private statement of a line, and the lines that follow (`otherwise` after a test that says
+/// no).
 #[derive(Clone, Copy, Debug, Drop)]
 pub struct PrivateLine {
     pub statement: Private,

@@ -1,4 +1,4 @@
-//! Private statements that stand near one another.
+//! Private statements that are close to one another.
 
 ghost use Rattle.std.specs.Prelude.{◌≡◌};
 ghost use Rattle.std.specs.Option.{option_map};
@@ -6,7 +6,7 @@ ghost use Rattle.tb_plan.specs.Strips.{strip_at, instruction_of};
 
 use crate::private_line::PrivateLine;
 
-/// The private statements of up to 127 lines that stand one behind another. It takes no memory.
+/// The private statements of up to 127 lines that are one after another. It takes no memory.
 #[derive(Debug, Drop)]
 pub struct Strip {
     /// The line of the first of these.

@@ -17,7 +17,7 @@ use Rattle.tb_races.proofs.KindLemmas.{kind_some}
 
 -- ---- the first link of a chain of needs
 
--- v, behind H, directly needs an event, which needs the newest one of G
+-- v, after H, directly needs an event, which needs the newest one of G
 record First (v : Event) (H G : History) : Type 0 where
   event : Event
   between : History
@@ -26,7 +26,7 @@ record First (v : Event) (H G : History) : Type 0 where
   direct : needs H v event ≡ true
   rest : Needs (event ∷ front) G
 
--- it needs it directly, or by way of what it directly needs
+-- the first event needs the second directly, or by way of what it directly needs
 abbrev Start : History → History → Type 0
 Start [] G = ⊥
 Start (v ∷ H) [] = ⊥
@@ -82,7 +82,7 @@ module _ (u : Event) (front : History) where
       at true a q h = absurd (false≢true (sym q))
       at false a q h = h
 
-  -- one of those that passes is some event behind it that needs it
+  -- one of those that passes is some event after it that needs it
   record Among (p : Event → Bool) (b : History) : Type 0 where
     who : Event
     after : History

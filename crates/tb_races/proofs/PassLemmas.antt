@@ -23,7 +23,7 @@ pub put_here : {A : Type 0} (p : A → Bool) (b : Bool) (x : A) (xs : List A) �
 put_here p b x xs e h = subst (λ c. list_any p (prepend_if c x xs) ≡ true) (sym e) (or_left (p x) (list_any p xs) h)
 
 module _ (o : Order) where
-  -- v, behind H, is the step e or comes after it
+  -- v, after H, is the step e or comes after it
   abbrev follows : StepId → History → Event → Bool
   follows e H v = is_step e H v || comes_after o e H v
 
@@ -38,7 +38,7 @@ module _ (o : Order) where
     none_yet : followers o (step_of front u) front ≡ []
     none_yet = followers_none (step_of front u) front (omega arith)
 
-    -- what was found is the step or stands behind it
+    -- what was found is the step or is after it
     record Found (p : Event → Bool) (b : History) : Type 0 where
       who : Event
       after : History

@@ -26,20 +26,21 @@ needing e (v ∷ H) = prepend_if (is_needer e H v) v (needing e H)
 abbrev pub as_cause : StepId → NeedKind → Cause
 as_cause e kind = record { kind = kind; step = e }
 
--- v, behind H, directly needs an event that needs the step e
+-- v, after H, directly needs an event that needs the step e
 abbrev pub needs_by_way : StepId → History → Event → Bool
 needs_by_way e H v = list_any (needs H v) (needing e H)
 
--- u, the newest event of the front part u ∷ K of H, as an immediate need of v, behind H: none where it isn't one
+-- u, the newest event of the front part u ∷ K of H, as an immediate need of v, after H: none where
+-- it isn't one
 abbrev pub cause : History → Event → History → Event → Option Cause
 cause H v K u = if needs_by_way (step_of K u) H v then None else option_map (as_cause (step_of K u)) (need_kind H v u)
 
--- the immediate needs of v, behind H, among the events of K, the front part of H, the newest first
+-- the immediate needs of v, after H, among the events of K, the front part of H, the newest first
 abbrev pub immediate : History → Event → History → List Cause
 immediate H v [] = []
 immediate H v (u ∷ K) = option_to_list (cause H v K u) ++ immediate H v K
 
--- those of the step e, none where it doesn't stand
+-- the immediate needs of the step e, none where it isn't there
 abbrev pub immediate_of : StepId → History → List Cause
 immediate_of e [] = []
 immediate_of e (v ∷ H) = if is_step e H v then immediate H v H else immediate_of e H

@@ -22,19 +22,19 @@ shared (Load r c x) b = some_if (is_store_to c b) (Cell c)
 shared (Print x) b = some_if (is_print b) Prints
 shared _ b = None
 
--- why the action, of t and behind H, waits for the end of u
+-- why the action, of t and after H, waits for the end of u
 abbrev pub wait_kind : History → Name → Action → Name → Option NeedKind
 wait_kind H t Start u = option_or (some_if (before H u t) Before) (some_if (apart H u t) Apart)
 wait_kind H t (Wait items) u = some_if (covers H t items u) Waits
 wait_kind H t Close u = some_if (is_member (own t H) u) Group
 wait_kind H t _ u = None
 
--- why the action, of t and behind H, needs the end of u: why it waits for it, or that u is the
--- undeferred child at which t stood
+-- why the action, of t and after H, needs the end of u: why it waits for it, or that u is the
+-- undeferred child for which t waited
 abbrev pub end_kind : History → Name → Action → Name → Option NeedKind
 end_kind H t a u = option_or (wait_kind H t a u) (some_if (holds (own t H) u) Undeferred)
 
--- why v, behind H, directly needs the event u of H: none where it doesn't
+-- why v, after H, directly needs the event u of H: none where it doesn't
 abbrev pub need_kind : History → Event → Event → Option NeedKind
 need_kind H v u =
     if is_of v.task u then Some Task

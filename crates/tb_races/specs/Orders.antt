@@ -9,7 +9,7 @@ use Rattle.tb_races.specs.declared.need_kind.NeedKind.{NeedKind}
 use Rattle.tb_races.specs.declared.need_kind.NeedKind.TheVariants.{Task, Spawn, Conflict as Conflicts, Before, Apart, Wait as Waits, Group, Undeferred}
 use Rattle.tb_races.specs.Kinds.{need_kind}
 
--- what every schedule keeps, that with what exclusion made of this one, or all needs
+-- what every schedule retains, that with what exclusion made of this one, or all needs
 pub data Order : Type 0 where
   Synchronised : Order
   WithExclusion : Order
@@ -40,7 +40,7 @@ abbrev pub counts_some : Order → Option NeedKind → Bool
 counts_some o None = false
 counts_some o (Some kind) = counts o kind
 
--- v, behind H, directly needs the event u of H by a kind that counts
+-- v, after H, directly needs the event u of H by a kind that counts
 abbrev pub links : Order → History → Event → Event → Bool
 links o H v u = counts_some o (need_kind H v u)
 
@@ -55,6 +55,6 @@ abbrev pub followers : Order → StepId → History → History
 followers o e [] = []
 followers o e (v ∷ H) = prepend_if (is_step e H v || list_any (links o H v) (followers o e H)) v (followers o e H)
 
--- v, behind H, comes after the step e of H
+-- v, after H, comes after the step e of H
 abbrev pub comes_after : Order → StepId → History → Event → Bool
 comes_after o e H v = list_any (links o H v) (followers o e H)

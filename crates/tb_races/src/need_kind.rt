@@ -5,7 +5,7 @@ use crate::conflict::Conflict;
 /// Why a step directly needs an earlier one. Where several kinds hold, the first counts.
 #[derive(Clone, Copy, Debug, Drop, PartialEq, Eq)]
 pub enum NeedKind {
-    /// Both are of one task.
+    /// The two steps are of one task.
     Task,
     /// The earlier one generates the task of the later.
     Spawn,

@@ -9,6 +9,6 @@ pub struct Race {
     pub earlier: StepId,
     pub later: StepId,
     pub conflict: Conflict,
-    /// Whether exclusion keeps the two from being under way at once.
+    /// Whether exclusion forbids the two to be under way at once.
     pub apart: bool,
 }

@@ -49,7 +49,7 @@ no_heading line text h =
     let none : is_heading (line_words text) ≡ false = no_heading_by _ _ _ (not_begun 98 (111 ∷ 100 ∷ 121 ∷ []) text h) in
     rw none refl
 
--- such a line adds no heading
+-- a line that doesn't begin with a b adds no heading
 pub nothing_added : (seen : List (Word × Heading)) (line : ℕ) (text : List ℕ) → begins_with 98 text ≡ false →
     (other : Word) → heading_of seen other ≡ heading_of (seen ++ option_to_list (heading_in line (line_words text))) other
 nothing_added seen line text h other = ap (λ headings. heading_of headings other) (sym (append-nil seen) ∙ ap (λ found. seen ++ option_to_list found) (sym (no_heading line text h)))

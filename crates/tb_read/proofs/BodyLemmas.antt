@@ -21,9 +21,9 @@ use Rattle.tb_read.specs.declared.block.Block.{Block}
 use Rattle.tb_read.proofs.NestingLemmas.{Fits, none_open, line_fits, line_below}
 use Rattle.tb_read.proofs.ReadLemmas.{lines_length}
 
--- ---- lines by place
+-- ---- lines by index
 
--- the places of a list with one more at its end
+-- the indexes of a list with one more at its end
 get_front : {A : Type 0} (xs : List A) (x : A) (n : ℕ) → n < length xs → slice_get (xs ++ x ∷ []) n ≡ slice_get xs n
 get_front [] x n within = absurd (omega arith)
 get_front (y ∷ xs) x zero within = refl
@@ -33,7 +33,7 @@ get_pushed : {A : Type 0} (xs : List A) (x : A) → slice_get (xs ++ x ∷ []) (
 get_pushed [] x = refl
 get_pushed (y ∷ xs) x = get_pushed xs x
 
--- what is behind a place, with what stands there
+-- what is after an index, with what is there
 pub drop_at : {A : Type 0} (xs : List A) (n : ℕ) (x : A) → slice_get xs n ≡ Some x → drop n xs ≡ x ∷ drop (suc n) xs
 drop_at [] n x e = absurd cc
 drop_at (y ∷ xs) zero x e = cc
@@ -50,7 +50,7 @@ until_at texts (suc count) n within = by_order (until_at texts count n) (cases_l
         let same : n ≡ count = omega arith in
         rw same (ap (slice_get (lines_until texts count ++ line_at texts count ∷ [])) (sym (lines_length texts count)) ∙ get_pushed (lines_until texts count) (line_at texts count))
 
--- a place in the list of lines is the line
+-- an index in the list of lines is the line
 pub listed : (texts : List (List ℕ)) (n : ℕ) (line : Line) → slice_get (lines_in texts) n ≡ Some line → (n < length texts) × (line_at texts n ≡ line)
 listed texts n line e =
     let within : n < length texts = omega (arith, slice_get_within (lines_in texts) n line e, lines_length texts (length texts)) in
@@ -73,11 +73,11 @@ heading_words true name line None f e = absurd cc
 heading_words false name line (Some params) f e = absurd cc
 heading_words false name line None f e = absurd cc
 
--- a line of those behind the first
+-- a line of those after the first
 one_further : (text : List ℕ) (texts : List (List ℕ)) (first line : ℕ) → IsHeadingLine texts (suc first) line → IsHeadingLine (text ∷ texts) first line
 one_further text texts first line r = record { at = suc r.at; text = r.text; placed = omega (arith, r.placed); here = r.here; words = r.words }
 
--- what holds of the first line's heading and of those behind it holds of the one that is found
+-- what holds of the first line's heading and of those after it holds of the one that is found
 found_here : (found : Option (Word × Heading)) (test : Word → Bool) (h : Heading) (others : List (Word × Heading)) (P : ℕ → Type 0) →
     ((f : Word × Heading) → found ≡ Some f → P f.1.line) → (lookup test others ≡ Some h → P h.line) → lookup test (option_to_list found ++ others) ≡ Some h → P h.line
 found_here None test h others P own more e = more e
@@ -100,7 +100,7 @@ heading_line (text ∷ texts) first name h e =
     let further = λ (q : lookup (same_word name) (headings_from (suc first) texts) ≡ Some h). one_further text texts first h.line (heading_line texts (suc first) name h q) in
     found_here (heading_in first (line_words text)) (same_word name) h (headings_from (suc first) texts) (IsHeadingLine (text ∷ texts) first) (first_heading text texts first) further e
 
--- a task that stands there has yet to start
+-- a task that is there has yet to start
 body_word : (here : Setting) (context : Context) (words : List Word) → is_heading words ≡ true → line_in here context words ≡ Stands DoStart
 body_word here context [] e = absurd (false≢true e)
 body_word here context (word ∷ words) e =
@@ -139,7 +139,7 @@ module _ (texts : List (List ℕ)) (accepted : IsAccepted texts) where
       let passes : last_fault here context ≡ None = ap (line_fault here context) (sym (slice_get_past texts (length texts) (omega arith))) ∙ accepted (length texts) (omega arith) in
       last_tests context.begun (is_open context) (is_some (here.heading (codes "main"))) passes
 
-  -- nor is one behind it
+  -- nor is one after it
   pub none_past : (n : ℕ) → length texts ≤ n → blocks_at texts n ≡ []
   none_past zero past =
       let same : length texts ≡ 0 = omega arith in

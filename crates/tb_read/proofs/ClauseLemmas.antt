@@ -1,4 +1,4 @@
--- What is left behind the last whole three.
+-- What is left after the last whole three.
 use Rattle.std.proofs.Common.{◌≡◌, ℕ, ◌<◌, List, [], ◌∷◌, Bool, not, length, map, Bor, None, arith, refl, nat_eq}
 use Rattle.tb_read.specs.Clauses.{is_broken, item_count, is_misplaced_in_rest, is_misplaced_in_clauses, clauses_of, test_of}
 use Rattle.tb_read.specs.declared.fault.FaultKind.{FaultKind}

@@ -27,13 +27,13 @@ groups_in [] = 0
 groups_in (Grouped ∷ blocks) = suc (groups_in blocks)
 groups_in (_ ∷ blocks) = groups_in blocks
 
--- the line of the body around a place
+-- the line of the body around an index
 abbrev pub body_of : List Block → Option ℕ
 body_of [] = None
 body_of (Bodied line ∷ blocks) = Some line
 body_of (_ ∷ blocks) = body_of blocks
 
--- two places in the same body, with as many groups open
+-- two indexes in the same body, with as many groups open
 pub record SameBody (here there : List Block) : Type 0 where
   pub groups : groups_in there ≡ groups_in here
   pub body : body_of there ≡ body_of here
@@ -41,7 +41,7 @@ pub record SameBody (here there : List Block) : Type 0 where
 same_blocks : (here there : List Block) → there ≡ here → SameBody here there
 same_blocks here there e = record { groups = ap groups_in e; body = ap body_of e }
 
--- a line at which a task can stand, of this body, with so many groups open
+-- a line at which a task can be, of this body, with so many groups open
 pub record Standing (texts : List (List ℕ)) (groups body line : ℕ) : Type 0 where
   pub statement : Statement
   pub is_line : IsLine texts line (Stands statement)
@@ -65,7 +65,7 @@ lies_in texts (Turned ∷ blocks) t h = lies_in texts blocks t.1 t.0
 lies_in texts (Looped line ∷ blocks) t h = lies_in texts blocks t.3 t.2
 lies_in texts (Grouped ∷ blocks) t h = lies_in texts blocks t.1 t.0
 
--- behind one line more
+-- after one line more
 traced_by : (texts : List (List ℕ)) (n : ℕ) (after : List Block) (s : Statement) → IsLine texts n (Stands s) → Traced texts (blocks_at texts n) → NestsBy n (blocks_at texts n) after s → Traced texts after
 traced_by texts n after DoStart is t nests = subst (Traced texts) (sym nests.1) (is, refl)
 traced_by texts n after DoTaskgroup is t nests = subst (Traced texts) (sym nests.one_more) (nests.in_front, t)
@@ -85,11 +85,11 @@ traced_behind texts n after (EndWhile from) is t nests = (subst (Traced texts) n
 
 -- ---- blocks read from below
 
--- behind its turn a block is closed, or has turned
+-- after its turn a block is closed, or has turned
 abbrev TurnsTo : List (List ℕ) → ℕ → List Block → Type 0
 TurnsTo texts turn blocks = (blocks_at texts (suc turn) ≡ blocks) ⊎ (blocks_at texts (suc turn) ≡ Turned ∷ blocks)
 
--- behind the end of each level its block is closed, and no other one
+-- after the end of each level its block is closed, and no other one
 abbrev Closed : List (List ℕ) → List Level → List Block → Type 0
 Closed texts [] blocks = ⊤
 Closed texts (level ∷ levels) blocks = (blocks_at texts (suc level.end) ≡ drop 1 blocks) × TurnsTo texts level.turn (drop 1 blocks) × Closed texts levels (drop 1 blocks)
@@ -110,7 +110,7 @@ turning texts n before (level ∷ levels) over h =
     let same : drop 1 (blocks_at texts (suc n)) ≡ drop 1 before = ap (drop 1) over.behind ∙ sym front in
     (h.0 ∙ same, inr (over.behind ∙ ap (λ blocks. Turned ∷ blocks) (sym front)), subst (Closed texts levels) same h.2)
 
--- in front of a line, from behind it
+-- in front of a line, from after it
 closed_by : (texts : List (List ℕ)) (n : ℕ) (before : List Block) (s : Statement) (levels : List Level) → NestsBy n before (blocks_at texts (suc n)) s → Closed texts levels (blocks_at texts (suc n)) → Closed texts (levels_by n s levels) before
 closed_by texts n before DoStart levels nests h = opening texts (Bodied n) before _ levels (nests.1 ∙ ap (λ blocks. Bodied n ∷ blocks) (sym nests.0)) h
 closed_by texts n before DoTaskgroup levels nests h = opening texts Grouped before _ levels nests.one_more h
@@ -128,7 +128,7 @@ closed_before texts n before EndIf levels (inl nests) h = closing texts n Tested
 closed_before texts n before EndIf levels (inr nests) h = closing texts n Turned before levels nests h
 closed_before texts n before (EndWhile from) levels nests h = closing texts n (Looped from) before levels nests h
 
--- behind the end of an `else`'s `if` the same body is open
+-- after the end of an `else`'s `if` the same body is open
 end_same : (texts : List (List ℕ)) (n : ℕ) (others : List Block) (levels : List Level) → blocks_at texts (suc n) ≡ Turned ∷ others → Closed texts levels (blocks_at texts (suc n)) →
     SameBody others (blocks_at texts (suc (end_of n levels)))
 end_same texts n others [] e h = record { groups = ap groups_in e; body = ap body_of e }
@@ -146,9 +146,9 @@ turn_same texts n block others (level ∷ levels) same e h = by_turn h.1
         let to : blocks_at texts (suc level.turn) ≡ Turned ∷ others = over ∙ ap (λ blocks. Turned ∷ drop 1 blocks) e in
         record { groups = ap groups_in to; body = ap body_of to }
 
--- ---- where control stands
+-- ---- where control is
 
--- behind an `if` the same body is open
+-- after an `if` the same body is open
 end_if_same : (before after : List Block) → (before ≡ Tested ∷ after) ⊎ (before ≡ Turned ∷ after) → SameBody before after
 end_if_same before after (inl e) = record { groups = sym (ap groups_in e); body = sym (ap body_of e) }
 end_if_same before after (inr e) = record { groups = sym (ap groups_in e); body = sym (ap body_of e) }
@@ -185,7 +185,7 @@ module _ (texts : List (List ℕ)) (accepted : IsAccepted texts) where
       let over = closed_before texts n (blocks_at texts n) (line_at texts n) (levels_behind (lines_in texts) n) (line_is texts accepted n (line_at texts n) is).nests (closed_from count (suc n) (omega arith)) in
       subst (λ lines. Closed texts (levels n lines) (blocks_at texts n)) (sym first) over
 
-  -- what the lines behind line n tell of the blocks that are open there
+  -- what the lines after line n say of the blocks that are open there
   pub closed_behind : (n : ℕ) → Closed texts (levels_behind (lines_in texts) n) (blocks_at texts (suc n))
   closed_behind n = by_order (cases_lt n (length texts))
     where
@@ -193,7 +193,7 @@ module _ (texts : List (List ℕ)) (accepted : IsAccepted texts) where
       by_order (inl within) = closed_from (length texts - suc n) (suc n) (omega arith)
       by_order (inr past) = closed_past (suc n) (omega arith)
 
-  -- control that comes to a line within a body stands in that body, with as many groups open
+  -- control that comes to a line within a body is in that body, with as many groups open
   pub arrives : (n to groups body : ℕ) → groups_in (blocks_at texts n) ≡ groups → body_of (blocks_at texts n) ≡ Some body → Arrives (lines_in texts) n to → Standing texts groups body to
   arrives n to groups body g b (stands {s = s} e) =
       let found = listed texts n (Stands s) e in

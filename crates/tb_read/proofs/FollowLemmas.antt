@@ -17,7 +17,7 @@ pub record WaysFrom (lines : List Line) (at : ℕ) (arrivals bends : List ℕ) (
   pub arrives : (n : ℕ) → at ≤ n → n ≤ length lines → Arrives lines n (slice_index arrivals n)
   pub turns : (n : ℕ) → at ≤ n → n < length lines → slice_index bends n ≡ turn_of n (levels_behind lines n)
 
--- behind the last line
+-- after the last line
 pub ways_none : (lines : List Line) (arrivals turns : List ℕ) (blocks : List Level) → arrivals ≡ replicate (suc (length lines)) (length lines) → turns ≡ replicate (length lines) 0 → blocks ≡ [] →
     WaysFrom lines (length lines) arrivals turns blocks
 ways_none lines arrivals turns blocks filled blank none = record {

@@ -59,7 +59,7 @@ heading_inserted old new name h seen same updates absent other =
         rw (nat_list_eq_equiv.symm name.now other, e, none) refl
     by_test false e = rw (nat_list_eq_equiv.symm name.now other, e) (found other ∙ or_none (lookup (same_word other) seen))
 
--- one that has its heading keeps it
+-- one that has its heading retains it
 pub heading_kept : (seen : List (List ℕ × Heading)) (name : List ℕ) (h : Heading) → is_some (heading_of seen name) ≡ true →
     (other : List ℕ) → heading_of seen other ≡ heading_of (seen ++ (name, h) ∷ []) other
 heading_kept seen name h there other = by_test (same_word other name) refl ∙ sym (lookup_append (same_word other) seen ((name, h) ∷ []))
@@ -84,7 +84,7 @@ heading_next seen more line text rest all added before name =
     ∙ ap (lookup (same_word name)) (append_assoc seen (option_to_list (heading_in line (line_words text))) (headings_from (suc line) rest))
     ∙ before name
 
--- the headings so far and those from the next line on are all, by the line's place
+-- the headings so far and those from the next line on are all, by the line's index
 pub heading_step : (lines : List (Bor (List ℕ))) (seen more : List (List ℕ × Heading)) (line : ℕ) (d : Bor (List ℕ)) (all : List ℕ → Option Heading) → line < length lines →
     ((name : List ℕ) → heading_of more name ≡ heading_of (seen ++ option_to_list (heading_in line (line_words (get_or lines line d).now))) name) →
     ((name : List ℕ) → heading_of (seen ++ headings_from line (map (λ line. line.now) (drop line lines))) name ≡ all name) →
@@ -102,7 +102,7 @@ abbrev line_in : Option Heading → ℕ
 line_in None = 0
 line_in (Some x) = x.line
 
--- the line of what one heading and those behind it find
+-- the line of what one heading and those after it find
 within_by : (t : Bool) (heading h : Heading) (others : Option Heading) (first count : ℕ) → heading.line ≡ first →
     (others ≡ Some h → (h.line < suc first + count) × (suc first ≤ h.line)) → cond t (Some heading) others ≡ Some h → (h.line < first + suc count) × (first ≤ h.line)
 within_by true heading h others first count here more e = let same : heading.line ≡ h.line = ap line_in e in (omega arith, omega arith)

@@ -1,4 +1,4 @@
--- The blocks that are open in front of a line, as the lines behind tell.
+-- The blocks that are open in front of a line, as the lines after say.
 use Rattle.std.proofs.Common.{◌≡◌, ℕ, zero, suc, ◌+◌, ◌<◌, ◌≤◌, length, drop, List, [], ◌∷◌, Some, slice_get, arith, ap, refl, subst}
 use Rattle.std.proofs.lemmas.List.{length-drop}
 use Rattle.tb_model.specs.declared.statement.Statement.{Statement}
@@ -87,7 +87,7 @@ pub levels_between : (lines : List Line) (n high : ℕ) → n + length lines ≤
 levels_between [] n high fits = λ k level e. absurd cc
 levels_between (line ∷ lines) n high fits = over_between n high line (levels (suc n) lines) (omega arith) (levels_between lines (suc n) high (omega arith))
 
--- behind a line of the text
+-- after a line of the text
 pub behind_between : (lines : List Line) (n : ℕ) → n < length lines → LieBetween (suc n) (length lines) (levels_behind lines n)
 behind_between lines n within = levels_between (drop (suc n) lines) (suc n) (length lines) (omega (arith, length-drop (suc n) lines))
 

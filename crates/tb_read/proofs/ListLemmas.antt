@@ -1,8 +1,8 @@
--- Lists by place.
+-- Lists by index.
 use Rattle.std.proofs.Common.{◌≡◌, ◌∙◌, ℕ, zero, suc, ◌<◌, List, [], ◌∷◌, length, map, drop, reverse, slice_get, Some, arith, ap, get_or, slice_index_or, ◌++◌, ◌+◌, subst, length-append}
 use Rattle.std.proofs.lemmas.List.{reverse-append}
 
--- a place of a list that another one shows
+-- an index of a list that another one shows
 pub get_map : {A B : Type 0} (f : A → B) (xs : List A) (at : ℕ) (x : A) → slice_get xs at ≡ Some x → slice_get (map f xs) at ≡ Some (f x)
 get_map f [] at x e = absurd cc
 get_map f (y ∷ xs) zero x e = let same : y ≡ x = cc in ap (λ z. Some (f z)) same
@@ -13,7 +13,7 @@ get_or_some [] at x within e = absurd (omega arith)
 get_or_some (y ∷ xs) zero x within e = ap Some e
 get_or_some (y ∷ xs) (suc at) x within e = get_or_some xs at x (omega arith) e
 
--- what holds of each place holds with one more at the end
+-- what holds of each index holds with one more at the end
 pub get_or_push : {A B : Type 0} (f : A → B) (d : B) (xs : List A) (x : A) (P : ℕ → B → Type 0) →
     ((n : ℕ) → n < length xs → P n (slice_index_or (map f xs) n d)) → P (length xs) (f x) →
     (n : ℕ) → n < suc (length xs) → P n (slice_index_or (map f (xs ++ x ∷ [])) n d)

@@ -28,7 +28,7 @@ use Rattle.tb_read.specs.declared.block.Block.TheVariants.{Bodied, Tested, Turne
 
 -- ---- registers and arguments
 
--- a register's number, or 0 where a word is none
+-- the number of a register, or 0 where a word is none
 unwrapped_below : (t : Bool) (n : ℕ) → (t ≡ true → n < 16) → unwrap_or (cond t (Some n) None) 0 < 16
 unwrapped_below true n below = below refl
 unwrapped_below false n below = omega arith
@@ -75,7 +75,7 @@ pub record TurnsOver (before after : List Block) : Type 0 where
   pub in_front : before ≡ Tested ∷ others
   pub behind : after ≡ Turned ∷ others
 
--- the blocks that are open in front of line n with this statement, and behind it
+-- the blocks that are open in front of line n with this statement, and after it
 abbrev pub NestsBy : ℕ → List Block → List Block → Statement → Type 0
 NestsBy n before after DoStart = (before ≡ []) × (after ≡ Bodied n ∷ [])
 NestsBy n before after DoTaskgroup = Opens Grouped before after
@@ -103,7 +103,7 @@ abbrev pub IsRight : (ℕ → Type 0) → Line → Type 0
 IsRight begun (Stands s) = IsRightBy begun s
 IsRight begun _ = ⊤
 
--- both, for line n; a body begins at each line that is begun
+-- line n nests and is right; a body begins at each line that is begun
 pub record Fits (begun : ℕ → Type 0) (n : ℕ) (before after : List Block) (line : Line) : Type 0 where
   pub nests : Nests n before after line
   pub right : IsRight begun line
@@ -127,11 +127,11 @@ unfaulted : (here : Setting) (context : Context) (head : Head) (words : List Wor
 unfaulted here context head words e =
     none_holds (holds here context head words) by_number (not_found (is_second_cells context head) Duplicate (find (holds here context head words) by_number) e).1
 
--- it stands where its word may stand
+-- the line is where its word may be
 nested : (here : Setting) (context : Context) (head : Head) (words : List Word) → fault_behind here context (Some head) words ≡ None → nesting context head ≡ false
 nested here context head words e = unfaulted here context head words e 6 Nesting refl
 
--- a statement stands within a body
+-- a statement is within a body
 within_body : (here : Setting) (context : Context) (head : Head) (words : List Word) → nesting context head ≡ not (is_open context) → fault_behind here context (Some head) words ≡ None → is_open context ≡ true
 within_body here context head words same e = not-false (is_open context) (sym same ∙ nested here context head words e)
 

@@ -1,4 +1,4 @@
--- A first piece, and the pieces behind it.
+-- A first piece, and the pieces after it.
 use Rattle.std.proofs.Common.{◌≡◌, ℕ, suc, Bool, true, false, List, [], ◌∷◌, ◌++◌, take, drop, refl, ap, sym, ◌∙◌, append_assoc, not, cond, ◌<◌, ◌≤◌, ◌+◌, ◌==◌, arith, zero, length, get_or, ◌⊎◌, inl, inr}
 use Rattle.std.proofs.lemmas.Bool.Decides.{nat_tests}
 use Rattle.std.specs.List.{position_or_len, filter}
@@ -7,7 +7,7 @@ use Rattle.tb_read.specs.Text.{pieces, onto_first, is_word, is_blank, uncommente
 one_more : (n : ℕ) → 1 + n ≡ suc n
 one_more n = omega arith
 
--- the pieces from a byte on that isn't an end, from the pieces of the bytes behind it
+-- the pieces from a byte on that isn't an end, from the pieces of the bytes after it
 pieces_on : (ends : ℕ → Bool) (b c : ℕ) (bytes : List ℕ) →
     pieces ends (c ∷ bytes) ≡ take (position_or_len ends (c ∷ bytes)) (c ∷ bytes) ∷ pieces ends (drop (suc (position_or_len ends (c ∷ bytes))) (c ∷ bytes)) →
     onto_first b (pieces ends (c ∷ bytes)) ≡ take (1 + position_or_len ends (c ∷ bytes)) (b ∷ c ∷ bytes) ∷ pieces ends (drop (suc (1 + position_or_len ends (c ∷ bytes))) (b ∷ c ∷ bytes))
@@ -26,7 +26,7 @@ pub pieces_front : (ends : ℕ → Bool) (b : ℕ) (bytes : List ℕ) →
 pieces_front ends b [] = pieces_by ends b [] refl
 pieces_front ends b (c ∷ bytes) = pieces_by ends b (c ∷ bytes) (pieces_on ends b c bytes (pieces_front ends c bytes))
 
--- the pieces that were found before, the next one and those behind it are all pieces
+-- the pieces that were found before, the next one and those after it are all pieces
 pub piece_found : (ends : ℕ → Bool) (before : List (List ℕ)) (rest : List ℕ) (all : List (List ℕ)) (at : ℕ) → (rest ≡ [] → ⊥) →
     at ≡ position_or_len ends rest → before ++ pieces ends rest ≡ all →
     (before ++ take at rest ∷ []) ++ pieces ends (drop (suc at) rest) ≡ all
@@ -53,7 +53,7 @@ cut_front : (b : ℕ) (bytes : List ℕ) (at : ℕ) → (b == 35) ≡ false → 
     pieces is_blank (uncommented true (b ∷ bytes)) ≡ take at (b ∷ bytes) ∷ pieces is_blank (uncommented true (drop (suc at) (b ∷ bytes)))
 cut_front b bytes at code e = rw e (ap (λ t. pieces is_blank (cond t [] (b ∷ uncommented (is_blank b) bytes))) code ∙ cut_inside b bytes)
 
--- a word, behind the words that were found before
+-- a word, after the words that were found before
 pub word_found : (before : List (List ℕ)) (rest : List ℕ) (all : List (List ℕ)) (at : ℕ) → 0 < at →
     begins_comment rest ≡ false → at ≡ position_or_len is_blank rest → before ++ line_words rest ≡ all →
     (before ++ take at rest ∷ []) ++ line_words (drop (suc at) rest) ≡ all
@@ -63,7 +63,7 @@ word_found before (b ∷ bytes) all (suc n) some code e h =
     let found : line_words (b ∷ bytes) ≡ take (suc n) (b ∷ bytes) ∷ line_words (drop (suc (suc n)) (b ∷ bytes)) = ap (filter is_word) (cut_front b bytes _ code e) in
     append_assoc before (take (suc n) (b ∷ bytes) ∷ []) (line_words (drop (suc (suc n)) (b ∷ bytes))) ∙ ap (λ more. before ++ more) (sym found) ∙ h
 
--- a blank, behind the words that were found before
+-- a blank, after the words that were found before
 pub blank_found : (before : List (List ℕ)) (rest : List ℕ) (all : List (List ℕ)) (at : ℕ) → at ≤ 0 →
     begins_comment rest ≡ false → at ≡ position_or_len is_blank rest → before ++ line_words rest ≡ all →
     before ++ line_words (drop (suc at) rest) ≡ all

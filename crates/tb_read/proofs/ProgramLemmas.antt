@@ -73,7 +73,7 @@ leads lines n next otherwise on off EndTaskgroup arrives turns e f = (subst (Arr
 leads lines n next otherwise on off (Test c) arrives turns e f = (subst (Arrives lines (suc n)) (sym e) arrives, subst (Arrives lines (suc (turn_of n (levels_behind lines n)))) (sym f) turns)
 leads lines n next otherwise on off End arrives turns e f = (e, f ∙ e)
 
--- the end of a body has a line behind it, and no other statement is one
+-- the end of a body has a line after it, and no other statement is one
 some_instr : (n next otherwise on : ℕ) (s : Statement) → next ≡ cond (is_last s) (suc n) on → record { statement = s; next = next; otherwise = otherwise } ≢ no_instr
 some_instr n next otherwise on End e same = absurd (let q : next ≡ 0 = ap (λ (i : Instruction). i.next) same in omega (arith, e, q))
 some_instr n next otherwise on Start e same = absurd (let q : Start ≡ End = ap (λ (i : Instruction). i.statement) same in cc)
@@ -88,7 +88,7 @@ some_instr n next otherwise on Taskgroup e same = absurd (let q : Taskgroup ≡ 
 some_instr n next otherwise on EndTaskgroup e same = absurd (let q : EndTaskgroup ≡ End = ap (λ (i : Instruction). i.statement) same in cc)
 some_instr n next otherwise on (Test c) e same = absurd (let q : Test c ≡ End = ap (λ (i : Instruction). i.statement) same in cc)
 
--- a line at which a task can stand, and its ways
+-- a line at which a task can be, and its ways
 module _ (lines : List Line) (ways : Ways) (are : AreWaysOf lines ways) (n next otherwise : ℕ) (s : Statement) (within : n < length lines) (here : slice_get lines n ≡ Some (Stands s))
     (e : next ≡ cond (is_last s) (suc n) (slice_index ways.arrivals.items (suc n))) (f : otherwise ≡ cond (is_test s) (slice_index ways.arrivals.items (suc (slice_index ways.turns.items n))) next) where
   pub standing_instr : IsInstrAt lines n (record { statement = s; next = next; otherwise = otherwise })

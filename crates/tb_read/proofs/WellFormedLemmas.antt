@@ -21,7 +21,7 @@ use Rattle.tb_read.proofs.FlowLemmas.{groups_in, body_of, SameBody, Standing, Tr
 
 -- ---- where a statement leads
 
--- the groups that are open where it stands, and where it leads
+-- the groups that are open where it is, and where it leads
 abbrev GroupsBehind : Statement → ℕ → ℕ → Type 0
 GroupsBehind DoStart here there = there ≡ 0
 GroupsBehind DoTaskgroup here there = there ≡ suc here
@@ -36,7 +36,7 @@ body_around texts n = unwrap_or (body_of (blocks_at texts n)) n
 abbrev depth_at : List (List ℕ) → ℕ → ℕ
 depth_at texts n = groups_in (blocks_at texts n)
 
--- the lines that follow the statement of line n stand in its body
+-- the lines that follow the statement of line n are in its body
 pub record GoesOn (texts : List (List ℕ)) (n next otherwise : ℕ) (s : Statement) : Type 0 where
   pub body : ℕ
   pub own_body : body_around texts n ≡ body
@@ -87,12 +87,12 @@ module _ (texts : List (List ℕ)) (accepted : IsAccepted texts) (n next otherwi
 
 -- ---- the program
 
--- what a line's instruction says where a task can stand at the line
+-- what a line's instruction says where a task can be at the line
 pub record Instructs (lines : List Line) (n : ℕ) (i : Instr) (s : Statement) : Type 0 where
   pub same : i.statement ≡ s
   pub leads : LeadsTo lines n i.next i.otherwise s
 
--- such an instruction is one
+-- the instruction of a line at which a task can be isn't that of a line that is missing
 is_instr : (lines : List Line) (n : ℕ) (i : Instr) (s : Statement) → Instructs lines n i s → i ≡ no_instr → ⊥
 is_instr lines n i DoEnd instructs none = let nowhere : i.next ≡ 0 = ap (λ (j : Instr). j.next) none in omega (arith, instructs.leads.0)
 is_instr lines n i s instructs none = false≢true (ap is_last (sym instructs.same) ∙ ap (λ (j : Instr). is_last j.statement) none)
@@ -128,7 +128,7 @@ module _ (texts : List (List ℕ)) (P : Program) (accepted : IsAccepted texts) (
   on_from : (n : ℕ) (s : Statement) → IsLine texts n (Stands s) → is_last s ≡ false → GoesOn texts n (instr_at P n).next (instr_at P n).otherwise s
   on_from n s is more = goes_on texts accepted n _ _ s more (line_is texts accepted n (Stands s) is).nests (instructs n s is).leads
 
-  -- a line with a statement is one at which a task can stand
+  -- a line with a statement is one at which a task can be
   position : (n : ℕ) (s : Statement) → IsLine texts n (Stands s) → IsPosition P n
   position n s is none = is_instr (lines_in texts) n (instr_at P n) s (instructs n s is) none
 
@@ -200,7 +200,7 @@ module _ (texts : List (List ℕ)) (P : Program) (accepted : IsAccepted texts) (
       by_line (inl none) = absurd (false≢true (ap (λ (i : Instr). is_begin i.statement) (sym none) ∙ b))
       by_line (inr (s, is, i)) = by_statement s is (ap is_begin (sym i.same) ∙ b)
 
-  -- a line where control stands has the body that it came from
+  -- a line where control is has the body that it came from
   stands_within : (n groups body line : ℕ) → body_around texts n ≡ body → Standing texts groups body line → body_around texts line ≡ body_around texts n
   stands_within n groups body line own on = ap (λ o. unwrap_or o line) on.same_body ∙ sym own
 

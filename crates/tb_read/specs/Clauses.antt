@@ -1,5 +1,5 @@
--- The words of a `task` line behind its name, and those of a `taskwait`: arguments, depend clauses, an `if` clause.
--- OpenMP 5.2, 15.9.5 depend Clause, 12.5 task Construct.
+-- The words of a `task` line after its name, and those of a `taskwait`: arguments, depend clauses,
+-- an `if` clause. OpenMP 5.2, 15.9.5 depend Clause, 12.5 task Construct.
 use Rattle.std.specs.Prelude.{ℕ, suc, Bool, true, false, not, List, [], ◌∷◌, ◌==◌, if◌then◌else◌, Option, Some, None, unwrap_or, length, map, take, drop, ◌||◌, ◌&&◌, ℤ, codes}
 use Rattle.std.specs.List.{list_any, position_or_len}
 use Rattle.tb_model.specs.declared.operand.Operand.{Operand}
@@ -48,14 +48,14 @@ three_places on_wait type = Depend ∷ Dependence on_wait ∷ AnAddress (allows_
 abbrev pub test_places : List Place
 test_places = AnOperand ∷ AComparison ∷ AnOperand ∷ []
 
--- fewer than three words have their places too
+-- fewer than three words have their indexes too
 abbrev pub is_misplaced_in_rest : FaultKind → Bool → List Word → Bool
 is_misplaced_in_rest fault on_wait [] = false
 is_misplaced_in_rest fault on_wait (word ∷ words) =
     if begins_test on_wait word then is_misplaced fault test_places words
     else is_misplaced fault (three_places on_wait (word_at words 0)) (word ∷ words)
 
--- some word of the clauses has the fault at its place
+-- some word of the clauses has the fault at its index
 abbrev pub is_misplaced_in_clauses : FaultKind → Bool → List Word → Bool
 is_misplaced_in_clauses fault on_wait (word ∷ type ∷ address ∷ words) =
     if begins_test on_wait word then is_misplaced fault test_places (type ∷ address ∷ words)
@@ -68,12 +68,12 @@ is_broken on_wait [] = false
 is_broken on_wait (word ∷ type ∷ address ∷ words) = if begins_test on_wait word then not (length words == 1) else is_broken on_wait words
 is_broken on_wait words = true
 
--- the number of depend items
+-- the count of depend items
 abbrev pub item_count : Bool → List Word → ℕ
 item_count on_wait (word ∷ type ∷ address ∷ words) = if begins_test on_wait word then 0 else suc (item_count on_wait words)
 item_count on_wait words = 0
 
--- ---- some word behind a `task` line's name has the fault at its place
+-- ---- some word after a `task` line's name has the fault at its index
 
 abbrev pub is_misplaced_argument : FaultKind → Word → Bool
 is_misplaced_argument fault word = is_fault fault (misfit AnOperand word)

@@ -1,4 +1,4 @@
--- What the lines in front of a line tell, and the fault of a line behind them.
+-- What the lines in front of a line say, and the fault of a line after them.
 use Rattle.std.specs.Prelude.{ℕ, ◌==◌, Bool, true, false, not, List, [], ◌∷◌, ◌++◌, if◌then◌else◌, nat_le, nat_lt, length, slice_get, slice_set, drop, replicate, ℤ, Option, Some, None, is_some, int_lt, ◌||◌, ◌&&◌, codes, min}
 use Rattle.std.specs.List.{find}
 use Rattle.tb_model.specs.Program.{Body as Named}
@@ -54,7 +54,7 @@ abbrev pub is_outside : List (Option ℤ) → Option ℤ → Bool
 is_outside cells None = false
 is_outside cells (Some z) = not (is_some (cell_at cells (Some z)))
 
--- the first line that begins a body of the name stands in front of this one
+-- the first line that begins a body of the name is before this one
 abbrev pub was_headed : ℕ → Option Heading → Bool
 was_headed line None = false
 was_headed line (Some heading) = nat_lt heading.line line
@@ -71,19 +71,20 @@ abbrev pub no_cells : Context → Head → Bool
 no_cells context Cells = false
 no_cells context _ = not context.begun
 
--- the number of cells or of parameters is below 0
+-- the count of cells or of parameters is below 0
 abbrev pub is_negative : Head → List Word → Bool
 is_negative Cells words = is_below (number_at words 0) (ℤ.pos 0)
 is_negative Body words = is_below (number_at words 1) (ℤ.pos 0)
 is_negative _ words = false
 
--- words of a `task` line behind its name, and of a `taskwait`, have places by the words in front of them
+-- words of a `task` line after its name, and of a `taskwait`, have indexes by the words in front of
+-- them
 abbrev pub has_misplaced_clause : FaultKind → Head → List Word → Bool
 has_misplaced_clause fault Task (name ∷ words) = is_misplaced_behind_name fault words
 has_misplaced_clause fault Taskwait words = is_misplaced_in_clauses fault true words
 has_misplaced_clause fault _ words = false
 
--- some word has the fault at its place
+-- some word has the fault at its index
 abbrev pub has_misplaced : FaultKind → Head → List Word → Bool
 has_misplaced fault head words = is_misplaced fault (places head) words || has_misplaced_clause fault head words
 
@@ -102,7 +103,7 @@ abbrev pub unknown_body : Setting → Head → List Word → Bool
 unknown_body here Task (name ∷ words) = not (is_some (here.heading name))
 unknown_body here _ words = false
 
--- a task has other than its body's number of arguments
+-- a task has other than its body's count of arguments
 abbrev pub is_miscalled : Option Heading → ℕ → Bool
 is_miscalled None args = false
 is_miscalled (Some heading) args = not (args == heading.params)
@@ -145,7 +146,7 @@ too_large context Task (name ∷ words) = nat_lt 64 (item_count false (clause_wo
 too_large context Taskwait words = nat_lt 64 (item_count true words)
 too_large context _ words = false
 
--- whether the line has the fault of this number
+-- whether the line has the fault of this code
 abbrev pub holds : Setting → Context → Head → List Word → FaultKind → Bool
 holds here context head words NoCells = no_cells context head
 holds here context head words BadNumber = bad_number head words
@@ -160,7 +161,7 @@ holds here context head words TooLarge = too_large context head words
 holds here context head words DependType = has_misplaced DependType head words
 holds here context head words _ = false
 
--- the faults of a line, by their numbers
+-- the faults of a line by their codes
 abbrev pub by_number : List FaultKind
 by_number = NoCells ∷ BadNumber ∷ CellRange ∷ UnknownWord ∷ UnknownBody ∷ Arity ∷ Nesting ∷ Duplicate ∷ Register ∷ TooLarge ∷ DependType ∷ []
 
@@ -187,7 +188,7 @@ last_fault here context =
     else (if is_some (here.heading (codes "main")) then None
     else Some NoMain))
 
--- ---- what a line tells
+-- ---- what a line says
 
 -- in front of the first line
 abbrev pub start : Context
@@ -202,7 +203,7 @@ abbrev pub with_cell : List (Option ℤ) → Option ℤ → Option ℤ → List 
 with_cell cells (Some (ℤ.pos n)) first = slice_set cells n first
 with_cell cells _ first = cells
 
--- the blocks that are open behind a line with this first word, the innermost first
+-- the blocks that are open after a line with this first word, the innermost first
 abbrev pub blocks_behind : ℕ → Head → List Block → List Block
 blocks_behind line Body blocks = Bodied line ∷ blocks
 blocks_behind line Taskgroup blocks = Grouped ∷ blocks
@@ -219,7 +220,7 @@ taken line context (Some Body) words = record context { begun = true; bodies = c
 taken line context (Some head) words = record context { begun = true; open_blocks = blocks_behind line head context.open_blocks }
 taken line context None words = record context { begun = true }
 
--- behind a line with these words
+-- after a line with these words
 abbrev pub after : ℕ → Context → List Word → Context
 after line context [] = context
 after line context (word ∷ words) = taken line context (head_of word) words

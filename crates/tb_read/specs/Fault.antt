@@ -1,4 +1,4 @@
--- The faults of a program text by their numbers.
+-- The faults of a program text by their codes.
 use Rattle.std.specs.Prelude.{ℕ}
 use Rattle.tb_read.specs.declared.fault.FaultKind.{FaultKind}
 use Rattle.tb_read.specs.declared.fault.FaultKind.TheVariants.{Memory, NoCells, BadNumber, CellRange, UnknownWord, UnknownBody, Arity, Nesting, NoMain, Duplicate, Register, TooLarge, NotText, DependType}

@@ -10,8 +10,8 @@ abbrev pub is_last : Statement → Bool
 is_last End = true
 is_last _ = false
 
--- a line whose statement isn't the end of a body is one at which a task can stand, and so are the lines that follow;
--- each line has the line that begins its body, which the lines that follow share
+-- a line whose statement isn't the end of a body is one at which a task can be, and so are the
+-- lines that follow; each line has the line that begins its body, which the lines that follow share
 pub record IsFollowed (P : Program) : Type 0 where
   pub stands : (n : ℕ) → is_last (instr_at P n).statement ≡ false → IsPosition P n
   pub next : (n : ℕ) → is_last (instr_at P n).statement ≡ false → IsPosition P (instr_at P n).next

@@ -1,4 +1,4 @@
--- The words of a line: the first, and the place of each behind it.
+-- The words of a line: the first, and the index of each after it.
 use Rattle.std.specs.Prelude.{ℕ, Bool, true, false, not, List, [], ◌∷◌, ◌==◌, if◌then◌else◌, Option, Some, None, is_some, ◌||◌, codes}
 use Rattle.tb_model.specs.declared.kind.Kind.{Kind}
 use Rattle.tb_model.specs.declared.kind.Kind.TheVariants.{Mutexinoutset}
@@ -29,7 +29,7 @@ head_of word =
     else (if same_word word (codes "while") then Some While
     else None)))))))))))))
 
--- ---- a word at its place
+-- ---- a word at its index
 
 -- a type that the line may name; a `taskwait` excludes nothing
 abbrev pub is_type : Bool → Option Kind → Bool
@@ -41,7 +41,7 @@ is_type on_wait (Some kind) = true
 abbrev pub operand_misfit : Word → Option FaultKind
 operand_misfit word = if is_some (operand_of word) then None else (if resembles_register word then Some Register else Some BadNumber)
 
--- the fault of a word that isn't what its place is for
+-- the fault of a word that isn't what its index is for
 abbrev pub misfit : Place → Word → Option FaultKind
 misfit Number word = if is_some (number_of word) then None else Some BadNumber
 misfit Destination word = if is_some (register_of word) then None else Some Register
@@ -53,7 +53,7 @@ misfit Depend word = if same_word word (codes "depend") then None else Some Unkn
 misfit (Dependence on_wait) word = if is_type on_wait (kind_of word) then None else Some DependType
 misfit (Address allows_all) word = if is_all word then (if allows_all then None else Some DependType) else operand_misfit word
 
--- a word at its place has one of these faults
+-- a word at its index has one of these faults
 abbrev pub is_fault : FaultKind → Option FaultKind → Bool
 is_fault BadNumber (Some BadNumber) = true
 is_fault UnknownWord (Some UnknownWord) = true
@@ -61,7 +61,7 @@ is_fault Register (Some Register) = true
 is_fault DependType (Some DependType) = true
 is_fault _ _ = false
 
--- some word has the fault at its place; words behind the last place have none
+-- some word has the fault at its index; words after the last index have none
 abbrev pub is_misplaced : FaultKind → List Place → List Word → Bool
 is_misplaced fault [] words = false
 is_misplaced fault (place ∷ places) [] = false
@@ -69,7 +69,8 @@ is_misplaced fault (place ∷ places) (word ∷ words) = is_fault fault (misfit 
 
 -- ---- the words of a line
 
--- the places behind the first word, but for the words of a `task` line behind its name, and those of a `taskwait`
+-- the indexes after the first word, but for the words of a `task` line after its name, and those of
+-- a `taskwait`
 abbrev pub places : Head → List Place
 places Cells = Number ∷ []
 places Cell = Number ∷ Number ∷ []
@@ -86,7 +87,8 @@ places If = Operand ∷ Comparison ∷ Operand ∷ []
 places Else = []
 places While = Operand ∷ Comparison ∷ Operand ∷ []
 
--- the number of words behind the first isn't the line's; Clauses counts those of `task` and `taskwait`
+-- the count of words after the first isn't the line's; Clauses counts those of `task` and
+-- `taskwait`
 abbrev pub is_miscounted : Head → ℕ → Bool
 is_miscounted Cells words = not (words == 1)
 is_miscounted Cell words = not (words == 2)

@@ -6,7 +6,7 @@ use Rattle.tb_read.specs.Text.{line_words}
 use Rattle.tb_read.specs.Word.{Word, same_word, word_at, number_of, is_name}
 use Rattle.tb_read.specs.declared.heading.Heading.{Heading}
 
--- the number of parameters, from 0 to 16
+-- the count of parameters, from 0 to 16
 abbrev pub params_of : Option ℤ → Option ℕ
 params_of (Some (ℤ.pos n)) = if nat_le n 16 then Some n else None
 params_of _ = None

@@ -32,7 +32,7 @@ operand_at words at = operand_in (word_at words at)
 abbrev pub operator_at : List Word → ℕ → Operator
 operator_at words at = unwrap_or (operator_of (word_at words at)) Plus
 
--- two words behind `let` are a copy, four a computation
+-- two words after `let` are a copy, four a computation
 abbrev pub let_of : List Word → Statement
 let_of words =
     if length words == 2 then DoLet (register_at words 0) (operand_at words 1)
@@ -99,7 +99,7 @@ lines_in texts = lines_until texts (length texts)
 
 -- ---- the program
 
--- the instruction of a line at which a task can stand, or none
+-- the instruction of a line at which a task can be, or none
 abbrev pub IsInstrOf : List Line → ℕ → Instr → Line → Type 0
 IsInstrOf lines n i (Stands s) = (i.statement ≡ s) × LeadsTo lines n i.next i.otherwise s
 IsInstrOf lines n i _ = i ≡ no_instr
@@ -124,6 +124,6 @@ pub record IsProgramOf (texts : List (List ℕ)) (P : Program) : Type 0 where
   pub count : length P.lines ≡ length texts
   pub instrs : AreInstrsOf (lines_in texts) P.lines
 
--- a line at which a task can stand
+-- a line at which a task can be
 abbrev pub IsPosition : Program → ℕ → Type 0
 IsPosition P n = instr_at P n ≢ no_instr

@@ -1,4 +1,4 @@
--- The first fault of a text. Its lines stand at their numbers, with an empty one at place 0.
+-- The first fault of a text. Its lines are at their numbers, with an empty one at index 0.
 use Rattle.std.specs.Prelude.{◌≡◌, ℕ, zero, suc, ◌<◌, ◌≤◌, ◌||◌, List, if◌then◌else◌, nat_lt, not, length, slice_get, Option, Some, None}
 use Rattle.tb_read.specs.Text.{before_comment, line_words, is_text}
 use Rattle.tb_read.specs.Headings.{headings_from, heading_of}
@@ -13,12 +13,13 @@ abbrev pub behind : ℕ → Option (List ℕ) → Context → Context
 behind n None context = context
 behind n (Some line) context = after n context (line_words line)
 
--- what the lines in front of line n tell, each taken as accepted
+-- what the lines in front of line n say, each taken as accepted
 abbrev pub context_at : List (List ℕ) → ℕ → Context
 context_at lines zero = start
 context_at lines (suc n) = behind n (slice_get lines n) (context_at lines n)
 
--- a line that is too long or too far down, or isn't text, has that fault alone; behind the last line come the last tests
+-- a line that is too long or too far down, or isn't text, has that fault alone; after the last line
+-- come the last tests
 abbrev pub line_fault : Setting → Context → Option (List ℕ) → Option FaultKind
 line_fault here context None = last_fault here context
 line_fault here context (Some line) =
@@ -26,7 +27,7 @@ line_fault here context (Some line) =
     else (if not (is_text (before_comment line)) then Some NotText
     else fault_of here context (line_words line))
 
--- the fault of line n, or of the whole text where n is the number behind the last line
+-- the fault of line n, or of the whole text where n is the number after the last line
 abbrev pub fault_at : List (List ℕ) → ℕ → Option FaultKind
 fault_at lines n = line_fault (setting_at lines n) (context_at lines n) (slice_get lines n)
 

@@ -21,7 +21,7 @@ abbrev pub shown_instr : Option Instr → Instruction
 shown_instr None = no_instr
 shown_instr (Some i) = instruction i
 
--- an instruction knows its line and the number of cells
+-- an instruction knows its line and the count of cells
 abbrev pub IsPlaced : ℕ → ℕ → Option Instr → Type 0
 IsPlaced cells n None = ⊤
 IsPlaced cells n (Some i) = (i.line ≡ n) × (i.cells ≡ cells) × (instruction i ≢ no_instr)

@@ -7,7 +7,8 @@ use Rattle.tb_read.specs.Followed.{IsFollowed}
 use Rattle.tb_read.specs.Meaning.{IsPosition}
 use Rattle.tb_read.specs.Shown.{ArePlaced}
 
--- it is well formed, its root's body begins at a line with a statement, and no run leaves its body
+-- the program is well formed, its root's body begins at a line with a statement, and no run leaves
+-- its body
 pub record IsSound (P : Program) : Type 0 where
   pub well_formed : WellFormed P
   pub root : IsPosition P P.root_line

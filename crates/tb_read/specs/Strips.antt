@@ -24,7 +24,7 @@ unfoldable pub first_line : Program → ℕ → ℕ → ℕ
 first_line P n zero = n
 first_line P n (suc most) = if begins_body P n then n else first_line P (n - 1) most
 
--- the last line in front of the next body, but at most so many lines behind line n
+-- the last line in front of the next body, but at most so many lines after line n
 unfoldable pub last_line : Program → ℕ → ℕ → ℕ
 last_line P n zero = n
 last_line P n (suc most) = if begins_body P (suc n) then n else last_line P (suc n) most
@@ -35,6 +35,6 @@ is_near P n m = nat_le (first_line P n 63) m && nat_le m (last_line P n 63)
 
 -- ---- the strip
 
--- the strip has the private statements of the near lines, and no others
+-- the strip has the private statements of the lines close by, and no others
 abbrev pub IsStripOf : Program → ℕ → Strip → Type 0
 IsStripOf P n s = (m : ℕ) → strip_at s m ≡ (if is_near P n m then private_at P m else None)

@@ -21,7 +21,7 @@ pieces ends (b ∷ bytes) = if ends b then [] ∷ pieces ends bytes else onto_fi
 abbrev pub lines_of : List ℕ → List (List ℕ)
 lines_of text = pieces is_line_feed text
 
--- the lines by their numbers: lines count from 1, so an empty one stands at place 0
+-- the lines by their numbers: lines count from 1, so an empty one is at index 0
 abbrev pub numbered : List ℕ → List (List ℕ)
 numbered text = [] ∷ lines_of text
 

@@ -3,7 +3,7 @@ use Rattle.std.specs.Prelude.{◌≡◌, ℕ, suc, ◌<◌, ◌≤◌, List, len
 use Rattle.tb_read.specs.Flow.{Line, Arrives, levels_behind, turn_of}
 use Rattle.tb_read.specs.declared.ways.Ways.{Ways}
 
--- each line has where control stands that comes there, and where the block turns that is open behind it
+-- each line has where control is that comes there, and where the block turns that is open after it
 pub record AreWaysOf (lines : List Line) (ways : Ways) : Type 0 where
   pub count : length ways.arrivals.items ≡ suc (length lines)
   pub arrives : (n : ℕ) → n ≤ length lines → Arrives lines n (slice_index ways.arrivals.items n)

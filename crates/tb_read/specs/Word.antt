@@ -19,7 +19,7 @@ Word = List ℕ
 abbrev pub same_word : Word → Word → Bool
 same_word a b = pointwise nat_eq a b
 
--- a word by its place; a line that is too short has an empty one there
+-- a word by its index; a line that is too short has an empty one there
 abbrev pub word_at : List Word → ℕ → Word
 word_at words at = slice_index_or words at []
 
@@ -96,6 +96,6 @@ kind_of word =
     else (if same_word word (codes "inoutset") then Some Inoutset
     else None))))
 
--- `all` stands for all memory
+-- `all` means all memory
 abbrev pub is_all : Word → Bool
 is_all word = same_word word (codes "all")

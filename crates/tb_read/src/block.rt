@@ -7,7 +7,7 @@ pub enum Block {
     Bodied { line: u32 },
     /// An `if` whose `else` may still come.
     Tested,
-    /// An `if` behind its `else`.
+    /// An `if` after its `else`.
     Turned,
     /// A `while`, by its line.
     Looped { line: u32 },

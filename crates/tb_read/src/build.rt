@@ -37,7 +37,7 @@ fn is_test(statement: &Statement) -> bool
     matches!(statement, Statement::Test { .. })
 }
 
-/// The line that follows a statement, or the next one behind the end of a body.
+/// The line that follows a statement, or the next one after the end of a body.
 fn next_of(statement: &Statement, arrivals: &[u32], at: usize) -> u32
     requires at { suc at < length arrivals.now }
     requires few { at < 65537 }
@@ -50,7 +50,7 @@ fn next_of(statement: &Statement, arrivals: &[u32], at: usize) -> u32
     }
 }
 
-/// The line that follows a test that says no. Others have but one line behind them.
+/// The line that follows a test that says no. Others have but one line after them.
 fn otherwise_of(statement: &Statement, arrivals: &[u32], turn: u32, next: u32) -> u32
     requires { suc turn < length arrivals.now }
     ensures { result ≡ (if is_test statement.now then slice_index arrivals.now (suc turn) else next) }
@@ -62,7 +62,7 @@ fn otherwise_of(statement: &Statement, arrivals: &[u32], turn: u32, next: u32) -
     }
 }
 
-/// The instruction of a line at this place.
+/// The instruction of a line at this index.
 fn instr_at(line: Line, ways: &Ways, cells: u32, at: usize) -> Option<Instr>
     requires few { at < 65537 }
     requires at { suc at < length ways.now.arrivals.items }
@@ -106,7 +106,8 @@ pub fn instrs(
 {
     let count = lines.len();
     let mut instrs = Vec::with_capacity(alloc, count)?;
-    // turned round, so that the first line is taken off first, and all lines never stand beside all instructions
+    // turned round, so that the first line is taken off first, and all lines are never in memory
+    // with all instructions
     let mut left = lines;
     left.reverse();
     for at in 0..count {

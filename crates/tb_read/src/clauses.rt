@@ -1,4 +1,4 @@
-//! The words of a `task` line behind its name, and those of a `taskwait`.
+//! The words of a `task` line after its name, and those of a `taskwait`.
 
 ghost use Rattle.std.specs.Prelude.{◌≡◌, ◌≤◌, false, map, length};
 ghost use Rattle.std.specs.List.{list_any};
@@ -16,7 +16,7 @@ fn begins_clause(word: &[u8]) -> bool
     same_word(word, b"depend") || same_word(word, b"if")
 }
 
-/// How many of the words behind a `task` line's name are arguments.
+/// How many of the words after a `task` line's name are arguments.
 pub fn argument_count(words: &[&[u8]]) -> usize
     ensures count { result ≡ argument_count (map (λ word. word.now) words.now) }
     ensures within { result ≤ length words.now }
@@ -33,14 +33,14 @@ pub fn argument_count(words: &[&[u8]]) -> usize
     count
 }
 
-/// The arguments among the words behind a `task` line's name.
+/// The arguments among the words after a `task` line's name.
 pub fn arguments<'w, 'a>(words: &'w [&'a [u8]]) -> &'w [&'a [u8]]
     ensures { map (λ word. word.now) result.now ≡ arguments (map (λ word. word.now) words.now) }
 {
     &words[..argument_count(words)]
 }
 
-/// The clauses among the words behind a `task` line's name.
+/// The clauses among the words after a `task` line's name.
 pub fn clause_words<'w, 'a>(words: &'w [&'a [u8]]) -> &'w [&'a [u8]]
     ensures { map (λ word. word.now) result.now ≡ clause_words (map (λ word. word.now) words.now) }
 {
@@ -66,7 +66,7 @@ fn test_places() -> &'static [Place]
     &[Place::Operand, Place::Comparison, Place::Operand]
 }
 
-/// Adds the faults of the words of a three at their places; words may be missing at its end.
+/// Adds the faults of the words of a three at their indexes; words may be missing at its end.
 fn add_three(found: &mut Misfits, on_wait: bool, kind: &[u8], three: &[&[u8]])
     ensures { Finds found.old found.new (λ fault. is_misplaced fault (three_places on_wait kind.now) (map (λ word. word.now) three.now)) }
 {
@@ -80,7 +80,7 @@ fn add_three(found: &mut Misfits, on_wait: bool, kind: &[u8], three: &[&[u8]])
     found.add_all(&places, three);
 }
 
-/// Adds the faults of the words after the last whole three at their places: those of a test, or of
+/// Adds the faults of the words after the last whole three at their indexes: those of a test, or of
 /// a three that lacks some.
 fn add_rest(found: &mut Misfits, on_wait: bool, words: &[&[u8]])
     ensures { Finds found.old found.new (λ fault. is_misplaced_in_rest fault on_wait (map (λ word. word.now) words.now)) }
@@ -97,7 +97,7 @@ fn add_rest(found: &mut Misfits, on_wait: bool, words: &[&[u8]])
     }
 }
 
-/// Adds the faults of the words of the clauses at their places.
+/// Adds the faults of the words of the clauses at their indexes.
 pub fn add_clauses(found: &mut Misfits, on_wait: bool, words: &[&[u8]])
     ensures { Finds found.old found.new (λ fault. is_misplaced_in_clauses fault on_wait (map (λ word. word.now) words.now)) }
 {
@@ -127,7 +127,7 @@ pub fn is_broken(on_wait: bool, words: &[&[u8]]) -> bool
     !left.is_empty()
 }
 
-/// The number of depend items.
+/// The count of depend items.
 pub fn item_count(on_wait: bool, words: &[&[u8]]) -> usize
     ensures { result ≡ item_count on_wait (map (λ word. word.now) words.now) }
 {
@@ -153,7 +153,7 @@ fn add_arguments(found: &mut Misfits, words: &[&[u8]])
     }
 }
 
-/// Adds the faults of the words behind a `task` line's name at their places.
+/// Adds the faults of the words after a `task` line's name at their indexes.
 pub fn add_behind_name(found: &mut Misfits, words: &[&[u8]])
     ensures { Finds found.old found.new (λ fault. is_misplaced_behind_name fault (map (λ word. word.now) words.now)) }
 {

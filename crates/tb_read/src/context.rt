@@ -1,4 +1,4 @@
-//! What the lines in front of a line tell, and the fault of a line behind them.
+//! What the lines in front of a line say, and the fault of a line after them.
 
 ghost use Rattle.std.specs.Prelude.{◌≡◌, ℕ, List, ◌++◌, ◌∷◌, [], ◌<◌, ◌≤◌, ◌==◌, drop, length, map, reverse, slice_get, Some, IfOk, OnOk, if◌then◌else◌, IsTrue, string_bytes};
 ghost use Rattle.std.specs.List.{list_all};
@@ -22,7 +22,7 @@ use crate::word::{number, same_word, word_at};
 use std::alloc::{AllocError, Global};
 use std::marker::Model;
 
-/// What the lines so far tell: whether one had words, the number that a line gave each cell, the
+/// What the lines so far say: whether one had words, the number that a line gave each cell, the
 /// bodies, and the open blocks, the innermost last.
 #[derive(Drop)]
 pub struct Lines {
@@ -118,7 +118,7 @@ fn unknown_body(headings: &Headings<'_>, head: Head, words: &[&[u8]]) -> bool
     }
 }
 
-/// Whether a task has other than its body's number of arguments.
+/// Whether a task has other than its body's count of arguments.
 fn is_miscalled(heading: Option<Heading>, args: usize) -> bool
     ensures { result ≡ is_miscalled heading args }
 {
@@ -178,7 +178,7 @@ fn blank_cells(alloc: Global, found: Option<i64>) -> Result<Vec<Option<i64>>, Al
     }
 }
 
-/// Gives a cell its first number.
+/// Gives a cell its first value.
 fn give(cells: &mut Vec<Option<i64>>, found: Option<i64>, first: Option<i64>)
     ensures cells { cells.new.items ≡ with_cell cells.old.items found first }
     ensures count { length cells.new.items ≡ length cells.old.items }

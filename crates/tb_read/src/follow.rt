@@ -50,7 +50,7 @@ fn pass_statement(levels: &mut Vec<Level>, at: u32, statement: &Statement) -> Re
     }
 }
 
-/// From the blocks that are open behind a line to those that are open in front of it.
+/// From the blocks that are open after a line to those that are open in front of it.
 fn pass(levels: &mut Vec<Level>, at: u32, line: &Line) -> Result<(), AllocError>
     ensures { OnOk result (reverse levels.new.items ≡ levels_over at (shown_line line.now) (reverse levels.old.items)) }
 {
@@ -89,7 +89,7 @@ pub fn line_at(lines: &[Line], at: usize) -> &Line
     &lines[at]
 }
 
-/// Where control stands that goes on behind a line.
+/// Where control is that goes on after a line.
 fn behind(arrivals: &[u32], at: u32) -> u32
     requires { suc at < length arrivals.now }
     ensures { result ≡ slice_index arrivals.now (suc at) }
@@ -97,7 +97,7 @@ fn behind(arrivals: &[u32], at: u32) -> u32
     arrivals[at as usize + 1]
 }
 
-/// Where control stands that comes to a line from above.
+/// Where control is that comes to a line from above.
 fn arrival(lines: &[Line], arrivals: &[u32], levels: &[Level], at: usize) -> u32
     requires at { at < length lines.now }
     requires few { length lines.now ≤ 65537 }

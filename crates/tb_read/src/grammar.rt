@@ -1,4 +1,4 @@
-//! The number of a line's words, and the place of each.
+//! The number of a line's words, and the index of each.
 
 ghost use Rattle.std.specs.Prelude.{◌≡◌, map};
 ghost use Rattle.tb_read.specs.Grammar.{places, is_miscounted};
@@ -11,7 +11,7 @@ use crate::head::Head;
 use crate::misfits::Misfits;
 use crate::place::Place;
 
-/// The places of the words behind a head, as far as they don't depend on the words.
+/// The indexes of the words after a head, as far as they don't depend on the words.
 fn places(head: Head) -> &'static [Place]
     ensures { result.now ≡ places head }
 {
@@ -34,7 +34,7 @@ fn places(head: Head) -> &'static [Place]
     }
 }
 
-/// Whether so many words behind the head are too few or too many.
+/// Whether so many words after the head are too few or too many.
 pub fn is_miscounted(head: Head, words: usize) -> bool
     ensures { result ≡ is_miscounted head words }
 {
@@ -49,7 +49,7 @@ pub fn is_miscounted(head: Head, words: usize) -> bool
     }
 }
 
-/// The faults of the words after the head at their places.
+/// The faults of the words after the head at their indexes.
 pub fn misplaced(head: Head, words: &[&[u8]]) -> Misfits
     ensures { (fault : FaultKind) → has result fault ≡ has_misplaced fault head (map (λ word. word.now) words.now) }
 {

@@ -11,7 +11,7 @@ use std::alloc::{AllocError, Global};
 use std::collections::HashMap;
 use std::marker::Model;
 
-/// What a line that begins a body says beside its name.
+/// What a line that begins a body says besides its name.
 #[derive(Clone, Copy, Debug, Drop, PartialEq, Eq)]
 pub struct Heading {
     pub line: usize,
@@ -59,7 +59,7 @@ impl<'a> Headings<'a> {
         self.by_name.get(name).copied()
     }
 
-    /// Adds a heading behind the others.
+    /// Adds a heading after the others.
     fn insert(&mut self, name: &'a [u8], heading: Heading) -> Result<(), AllocError>
         ensures { OnOk result ((other : List ℕ) → heading_of self.new other ≡ heading_of (self.old ++ (name.now, heading) ∷ []) other) }
     {
@@ -69,7 +69,7 @@ impl<'a> Headings<'a> {
         Ok(())
     }
 
-    /// Adds the line's heading behind the others, where it has one.
+    /// Adds the line's heading after the others, where it has one.
     fn add(&mut self, alloc: Global, line: usize, text: &'a [u8]) -> Result<(), AllocError>
         ensures { OnOk result ((other : List ℕ) → heading_of self.new other ≡ heading_of (self.old ++ option_to_list (heading_in line (line_words text.now))) other) }
     {

@@ -8,7 +8,7 @@ use std::mem::size_of;
 pub enum Line {
     /// Control passes over it.
     Passed,
-    /// A task can stand there.
+    /// A task can be there.
     Stands(Parsed),
     Else,
     /// The end of an `if`, over which control passes.

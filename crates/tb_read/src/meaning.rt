@@ -134,7 +134,7 @@ fn up_to_16<'w, 'a>(words: &'w [&'a [u8]]) -> &'w [&'a [u8]]
     }
 }
 
-/// The arguments among the words behind a `task` line's name, of which no more than 16 count.
+/// The arguments among the words after a `task` line's name, of which no more than 16 count.
 fn args_of(alloc: Global, words: &[&[u8]]) -> Result<Operands, AllocError>
     ensures args { IfOk result (λ args. args ≡ args_of (map (λ word. word.now) words.now)) }
     ensures sound { IfOk result (λ args. IsTrue (list_all is_sound_operand args)) }
@@ -228,7 +228,7 @@ fn end_of(block: Option<Block>) -> Line
     }
 }
 
-/// What a line with this first word is, behind those so far.
+/// What a line with this first word is, after those so far.
 pub fn line_by(
     alloc: Global,
     headings: &Headings<'_>,

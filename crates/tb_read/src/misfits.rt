@@ -1,4 +1,4 @@
-//! Which faults words have at their places.
+//! Which faults words have at their indexes.
 
 ghost use Rattle.std.specs.Prelude.{◌≡◌, map, false};
 ghost use Rattle.tb_read.specs.Grammar.{misfit, is_fault, is_misplaced};
@@ -8,7 +8,8 @@ ghost use Rattle.tb_read.specs.declared.fault.FaultKind.{FaultKind};
 use crate::fault::FaultKind;
 use crate::place::{Place, misfit};
 
-/// The faults that some word has at its place. All are found in one pass, since most lines have none.
+/// The faults that some word has at its index. All are found in one pass, since most lines have
+/// none.
 #[derive(Clone, Copy, Debug, Drop, PartialEq, Eq)]
 pub struct Misfits {
     pub bad_number: bool,
@@ -41,14 +42,14 @@ impl Misfits {
         }
     }
 
-    /// Adds the fault of a word at its place.
+    /// Adds the fault of a word at its index.
     pub fn add(&mut self, place: Place, word: &[u8])
         ensures { Finds self.old self.new (λ fault. is_fault fault (misfit place word.now)) }
     {
         self.add_fault(misfit(place, word));
     }
 
-    /// Adds the faults of words at their places.
+    /// Adds the faults of words at their indexes.
     pub fn add_all(&mut self, places: &[Place], words: &[&[u8]])
         ensures { Finds self.old self.new (λ fault. is_misplaced fault places.now (map (λ word. word.now) words.now)) }
     {

@@ -1,4 +1,4 @@
-//! What a word is to be at its place.
+//! What a word is to be at its index.
 
 ghost use Rattle.std.specs.Prelude.{◌≡◌, None, Some, if◌then◌else◌};
 ghost use Rattle.tb_read.specs.Grammar.{is_type, operand_misfit, misfit};
@@ -10,7 +10,7 @@ use crate::word::{
 };
 use tb_model::Kind;
 
-/// What a word is to be at its place.
+/// What a word is to be at its index.
 #[derive(Clone, Copy, Debug, PartialEq, Eq)]
 pub enum Place {
     Number,
@@ -23,7 +23,7 @@ pub enum Place {
     Depend,
     /// A dependence type, of a `taskwait` or of a `task` line.
     Dependence { on_wait: bool },
-    /// An operand, or all memory behind a type that allows it.
+    /// An operand, or all memory after a type that allows it.
     Address { allows_all: bool },
 }
 
@@ -56,7 +56,7 @@ fn unless(fits: bool, fault: FaultKind) -> Option<FaultKind>
     if fits { None } else { Some(fault) }
 }
 
-/// The fault of a word at its place.
+/// The fault of a word at its index.
 pub fn misfit(place: Place, word: &[u8]) -> Option<FaultKind>
     ensures { result ≡ misfit place word.now }
 {

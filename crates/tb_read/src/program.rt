@@ -13,8 +13,8 @@ use crate::body::Body;
 use std::marker::Model;
 use tb_plan::Instr;
 
-/// A program: its cells with their first numbers, its bodies, and an instruction for each line at
-/// which a task can stand.
+/// A program: its cells with their first values, its bodies, and an instruction for each line at
+/// which a task can be.
 #[derive(Debug, Drop)]
 pub struct Program {
     cells: Vec<i64>,
@@ -107,7 +107,7 @@ impl Program {
         None
     }
 
-    /// The instruction of the line, where a task can stand there.
+    /// The instruction of the line, where a task can be there.
     pub fn instr(&self, at: u32) -> Option<&Instr>
         ensures position { IsSome result ↔ IsPosition self.now at }
         ensures instr { IfSome result (λ i. instruction i.now ≡ instr_at self.now at) }

@@ -71,7 +71,7 @@ fn read_words(
 }
 
 /// Takes a line in and adds what it is to those so far, where it is without a fault. `words` is
-/// room for its words.
+/// capacity for its words.
 #[tactic(auto, using(crate::proofs::TextLemmas::words_text))]
 fn read_line<'a>(
     alloc: Global,
@@ -104,7 +104,7 @@ fn item<T: Copy>(items: &[T], at: usize) -> T
     items[at]
 }
 
-/// All lines in a row: what they tell, and what each is.
+/// All lines in a row: what they say, and what each is.
 pub fn read_lines(
     alloc: Global,
     lines: &[&[u8]],

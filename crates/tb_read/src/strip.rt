@@ -9,7 +9,7 @@ use crate::program::Program;
 use tb_model::Statement;
 use tb_plan::{PrivateLine, Strip, private_of};
 
-/// The private statements of a line's body, from 63 lines in front of the line to 63 behind it.
+/// The private statements of a line's body, from 63 lines in front of the line to 63 after it.
 pub fn strip_around(program: &Program, at: u32) -> Strip
     requires { at < 65537 }
     ensures { IsStripOf program.now at result }
@@ -54,7 +54,7 @@ fn first_line(program: &Program, at: u32, most: u32) -> u32
 }
 
 #[tactic(auto, using(crate::proofs::StripLemmas::last_none, crate::proofs::StripLemmas::last_here, crate::proofs::StripLemmas::last_on))]
-/// The last line in front of the next body, but at most so many lines behind the line.
+/// The last line in front of the next body, but at most so many lines after the line.
 fn last_line(program: &Program, at: u32, most: u32) -> u32
     requires { at + most < 4294967296 }
     ensures line { result ≡ last_line program.now at most }

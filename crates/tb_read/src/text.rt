@@ -28,7 +28,7 @@ fn word_len(bytes: &[u8]) -> usize
     bytes.iter().take_while(|b| !is_blank(**b)).count()
 }
 
-/// The bytes behind a place.
+/// The bytes after an index.
 fn behind(bytes: &[u8], at: usize) -> &[u8]
     ensures { result.now ≡ drop (suc at) bytes.now }
 {
@@ -39,7 +39,7 @@ fn behind(bytes: &[u8], at: usize) -> &[u8]
     }
 }
 
-/// The lines of a text by their numbers, without their line feeds. Place 0 has an empty one.
+/// The lines of a text by their numbers, without their line feeds. Index 0 has an empty one.
 pub fn numbered(alloc: Global, text: &[u8]) -> Result<Vec<&[u8]>, AllocError>
     ensures { IfOk result (λ lines. map (λ line. line.now) lines.items ≡ numbered text.now) }
 {
@@ -78,7 +78,7 @@ fn begins_comment(bytes: &[u8]) -> bool
 }
 
 /// Whether the first byte that isn't a blank is this one, as that of a line with a certain first
-/// word is. It tells most lines from such a line without looking for their words.
+/// word is. It distinguishes most lines from such a line without looking for their words.
 pub fn begins_with(line: &[u8], first: u8) -> bool
     ensures { result ≡ begins_with first line.now }
 {
@@ -119,7 +119,7 @@ fn front(bytes: &[u8]) -> (usize, bool)
 }
 
 /// Puts the words of a line, without its comment, into `words`, in place of what was there, and
-/// tells whether all before the comment is text.
+/// returns whether all before the comment is text.
 pub fn split<'a>(words: &mut Vec<&'a [u8]>, line: &'a [u8]) -> Result<bool, AllocError>
     ensures words { OnOk result (map (λ word. word.now) words.new.items ≡ line_words line.now) }
     ensures text { IfOk result (λ text. text ≡ is_text (before_comment line.now)) }

@@ -19,7 +19,7 @@ pub fn same_word(a: &[u8], b: &[u8]) -> bool
     a.len() == b.len() && a == b
 }
 
-/// The word at a place, an empty one where there is none.
+/// The word at an index, an empty one where there is none.
 pub fn word_at<'a>(words: &[&'a [u8]], at: usize) -> &'a [u8]
     ensures { result.now ≡ word_at (map (λ word. word.now) words.now) at }
 {
@@ -166,7 +166,7 @@ pub fn kind(word: &[u8]) -> Option<Kind>
     }
 }
 
-/// Whether the word stands for all memory.
+/// Whether the word means all memory.
 pub fn is_all(word: &[u8]) -> bool
     ensures { result ≡ is_all word.now }
 {

@@ -1,4 +1,4 @@
-//! Reads program texts, and tells the fault or the program of each.
+//! Reads program texts, and returns the fault or the program of each.
 #![tactic(auto)]
 
 mod statement_text;

@@ -1,4 +1,4 @@
-//! Texts that stand one behind the other, and what the reader says of each.
+//! Texts that are one after the other, and what the reader says of each.
 
 ghost use Rattle.std.specs.Prelude.{◌≢◌, ◌<◌, ◌≤◌, [], length};
 
@@ -8,14 +8,14 @@ use tb_model::Statement;
 use tb_plan::Instr;
 use tb_read::{Program, read};
 
-/// The place of the next line feed, or the end.
+/// The index of the next line feed, or the end.
 fn line_end(bytes: &[u8]) -> usize
     ensures { result ≤ length bytes.now }
 {
     bytes.iter().take_while(|b| **b != b'\n').count()
 }
 
-/// The bytes behind a place.
+/// The bytes after an index.
 fn behind(bytes: &[u8], at: usize) -> &[u8]
     ensures { bytes.now ≢ [] → length result.now < length bytes.now }
 {

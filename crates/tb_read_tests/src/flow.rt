@@ -15,8 +15,8 @@ fn row_of(rows: &[(u32, u32, u32)], line: u32) -> Option<(u32, u32, u32)> {
     None
 }
 
-/// Asks for the positions of a text, each with the lines that follow it: behind a test that says
-/// yes or another statement, and behind a test that says no.
+/// Asks for the positions of a text, each with the lines that follow it: after a test that says yes
+/// or another statement, and after a test that says no.
 fn expect_flow(
     rt: &(impl Abort + AllocGlobal),
     text: &[u8],

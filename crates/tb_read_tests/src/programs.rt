@@ -61,12 +61,12 @@ fn texts_that_are_accepted(rt: HostRuntime) -> Result<(), Fail> {
     Ok(())
 }
 
-/// The statement of a line as it is kept.
+/// The statement of a line as it is stored.
 fn statement_at(program: &Program, line: u32) -> Result<&Statement, Fail> {
     Ok(&program.instr(line).ok_or("no statement")?.statement)
 }
 
-/// A task line keeps its body's line, its arguments, its items and its `if` clause.
+/// A task line retains its body's line, its arguments, its items and its `if` clause.
 #[test]
 fn a_task_line_is_kept_whole(rt: HostRuntime) -> Result<(), Fail> {
     let text =

@@ -65,7 +65,7 @@ mapped gone xs ys n each =
     ext_get_or 0 ys (map (moved_up gone) xs) (n ∙ sym (length-map xs (moved_up gone)))
     (λ a h. each a h ∙ sym (get_or-map (moved_up gone) xs a 0 0 (omega (arith, n, h))))
 
--- the list without the number at a place, where the ring's first goes
+-- the list without the number at an index, where the ring's first goes
 pub first_out : (b : ℕ) (xs : List ℕ) (place : ℕ) → b + place ≡ length xs → place < length xs → joined (b - 1) (drop 1 xs) ≡ remove (joined b xs) place
 first_out b [] place h l = absurd (omega (arith, l))
 first_out b (x ∷ xs) place h l =

@@ -23,7 +23,7 @@ use Rattle.tb_ready.proofs.ChangeLemmas.{added, added_others, marked, marked_oth
 abbrev Table : Type 0
 Table = List (Name × Bool)
 
--- ---- the mark of each name behind a change, whatever the action
+-- ---- the mark of each name after a change, whatever the action
 
 -- where o is the mark of u in front of it
 abbrev marked_if : Bool → Bool → Bool → Option Bool → Option Bool
@@ -170,7 +170,7 @@ marked_unended H tasks t st = ap (λ o. unwrap_or o false) (st t) ∙ at (is_spa
 pub candidates : (H : History) (tasks : Table) (skip : List Name) (name : Name) → AreMarks H tasks → is_candidate tasks skip name ≡ (is_unended H name && not (list_any (λ s. same_name s name) skip))
 candidates H tasks skip name st = ap (λ b. b && not (list_any (λ s. same_name s name) skip)) (marked_unended H tasks name st)
 
--- a task that comes to stand isn't there yet
+-- a task that comes to be isn't there yet
 pub absent_before : (cells : Cells) (H : History) (v : Event) (s : TheSpawn) (tasks : Table) → Legal cells (v ∷ H) → v.action ≡ Spawn s → AreMarks H tasks → mark_of tasks s.child ≡ None
 absent_before cells H v s tasks l q st =
     let n : spawns s.child v ≡ true = ap (is_spawn_of s.child) q ∙ same_refl s.child in

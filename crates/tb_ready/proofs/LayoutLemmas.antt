@@ -25,7 +25,7 @@ pub length_tasks : (es : Entries) (slots : Slots) → length (tasks_of es slots)
 length_tasks [] slots = refl
 length_tasks (e ∷ es) slots = ap suc (length_tasks es slots)
 
--- ---- the entry at a place
+-- ---- the entry at an index
 
 same_entry : (e : Name × ℕ) (n : Name) (k : ℕ) → Some e ≡ Some (n, k) → e ≡ (n, k)
 same_entry e n k h = ap (λ o. unwrap_or o e) h
@@ -257,7 +257,7 @@ unique (t ∷ es) slots d (suc i) zero hi hj e =
 unique (t ∷ es) slots d (suc i) (suc j) hi hj e =
     ap suc (unique es slots (IsDistinct-tail same_name t.0 (keys_of es) d) i j (omega arith) (omega arith) e)
 
--- the name of an entry stands at its place
+-- the name of an entry is at its index
 pub stands_there : (es : Entries) (slots : Slots) (i : ℕ) (n : Name) (k : ℕ) (name : Name) → slice_get es i ≡ Some (n, k) → same_name n name ≡ true → StandsAt (tasks_of es slots) name i
 stands_there es slots i n k name h same = record {
   within = omega (arith, length_tasks es slots, slice_get_within es i (n, k) h);

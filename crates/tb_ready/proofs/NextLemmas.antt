@@ -1,4 +1,4 @@
--- The next marked name stands at the first place behind a name.
+-- The next marked name is at the first index after a name.
 use Rattle.std.proofs.Common.{◌≡◌, ◌≢◌, ◌<◌, ◌≤◌, ◌+◌, ℕ, Bool, true, false, List, [], length, Option, Some, None, arith, refl, ap, sym, ◌∙◌, subst, get_or, ◌⊎◌, inl, inr}
 use Rattle.std.specs.Prelude.{unwrap_or}
 use Rattle.std.specs.declared.cmp.Ordering.TheVariants.{Less}
@@ -26,7 +26,7 @@ module _ (ts : List (Name × Bool)) (o : List ℕ) (ord : IsOrder ts o) where
   pub first_of_all : IsFirstBehind ts o None 0
   first_of_all = record { passed = λ a l b. absurd (omega (arith, l)); behind = λ a h w. tt }
 
-  -- a name that stands in the order stands at its place
+  -- a name that is in the order is at its index
   pub place_of_itself : (name : Name) (p : ℕ) → p < length o → at p ≡ name → IsPlace ts o name p
   place_of_itself name p h e = record {
     within = omega (arith, h);
@@ -41,7 +41,7 @@ module _ (ts : List (Name × Bool)) (o : List ℕ) (ord : IsOrder ts o) where
           ap (λ n. is_lt (name_cmp n (at p))) (ap at same) ∙ ap is_lt (tied_itself name_cmp_total (at p))
 
   module _ (name : Name) (p : ℕ) (place : IsPlace ts o name p) where
-    -- the name itself stands there
+    -- the name itself is there
     pub behind_itself : p < length o → at p ≡ name → IsFirstBehind ts o (Some name) (p + 1)
     behind_itself h e = record { passed = λ a l b. passed a l b (cases_lt a p); behind = λ a l w. sym (ap (λ n. name_cmp n (at a)) e) ∙ ord.rising p a (omega (arith, l)) w }
       where
@@ -61,7 +61,7 @@ module _ (ts : List (Name × Bool)) (o : List ℕ) (ord : IsOrder ts o) where
             -- the one at p would be less than the name
             one_less name (at p) (less_behind (at p) name (place.above p (omega arith) (omega (arith, x, w))) (other (omega (arith, x, w)))) (ap (name_cmp (at p)) (sym e) ∙ ord.rising p a x w)
 
-  -- a marked name stands in the order
+  -- a marked name is in the order
   marked_at : (name : Name) → unwrap_or (mark_of ts name) false ≡ true → (a : ℕ) × (a < length o) × (at a ≡ name)
   marked_at name m = let r = candidate_at ts o ord [] name (and_from (unwrap_or (mark_of ts name) false) true m refl) in (r.0, r.1, r.2)
 

@@ -76,7 +76,7 @@ module _ (ts : Table) (o : List ℕ) (ord : IsOrder ts o) where
   pub within_order : (a : ℕ) → a < length o → get_or o a 0 < length ts
   within_order a h = task.mark_within ts (get_or o a 0) (ord.marked a h)
 
-  -- no place is there twice
+  -- no index is there twice
   distinct : (a b : ℕ) → a ≢ b → a < length o → b < length o → get_or o a 0 ≢ get_or o b 0
   distinct a b d ha hb same = at (cases_lt a b)
     where
@@ -89,7 +89,7 @@ module _ (ts : Table) (o : List ℕ) (ord : IsOrder ts o) where
   pub few : (i : ℕ) → i < length ts → mark_at ts i ≡ false → length o < length ts
   few i h e = let c = task.count_below ts i h e in omega (arith, c, ord.counted)
 
-  -- behind the last name no place moves
+  -- after the last name no index moves
   pub none_moves : (gone : ℕ) → gone + 1 ≡ length ts → (a : ℕ) → a < length o → get_or o a 0 ≡ moved_up gone (get_or o a 0)
   none_moves gone last a h =
       let w = within_order a h in
@@ -311,7 +311,7 @@ module _ (ts : Table) (o : List ℕ) (ord : IsOrder ts o) where
     abbrev pub skipped : Name → Bool
     skipped name = list_any (λ s. same_name s name) skip
 
-    -- a candidate stands in the order
+    -- a candidate is in the order
     pub candidate_at : (name : Name) → IsTrue (is_candidate ts skip name) → (a : ℕ) × (a < length o) × (name_at ts (get_or o a 0) ≡ name) × (skipped name ≡ false)
     candidate_at name h = at (mark_of ts name) refl
       where

@@ -1,4 +1,4 @@
--- Names and marks by place, and by name.
+-- Names and marks by index, and by name.
 use Rattle.std.proofs.Common.{◌≡◌, ◌≢◌, ◌<◌, ◌≤◌, ◌+◌, ℕ, zero, suc, Bool, true, false, not, cond, List, [], ◌∷◌, ◌++◌, length, Option, Some, None, arith, refl, ap, sym, ◌∙◌, subst, slice_get}
 use Rattle.std.specs.Prelude.{remove, unwrap_or, is_some, IfSome}
 use Rattle.std.specs.Map.{keys_of}
@@ -23,7 +23,7 @@ unique_head t ts i u h =
     false_from_ne_true (same_name (name_at ts i) t.0)
     (λ e. let same = u (suc i) zero (omega arith) (omega arith) (same_true (name_at ts i) t.0 e) in absurd (omega (arith, same)))
 
--- the mark of the name at a place
+-- the mark of the name at an index
 pub mark_of_at : (ts : Table) (i : ℕ) → AreUnique ts → i < length ts → mark_of ts (name_at ts i) ≡ Some (mark_at ts i)
 mark_of_at [] i u h = absurd (omega arith)
 mark_of_at (t ∷ ts) zero u h = ap (λ b. cond b (Some t.1) (mark_of ts t.0)) (same_refl t.0)
@@ -31,7 +31,7 @@ mark_of_at (t ∷ ts) (suc i) u h =
     ap (λ b. cond b (Some t.1) (mark_of ts (name_at ts i))) (unique_head t ts i u (omega arith))
     ∙ mark_of_at ts i (unique_tail t ts u) (omega arith)
 
--- the mark of a name that was found at a place is the one there
+-- the mark of a name that was found at an index is the one there
 pub mark_of_named : (ts : Table) (name : Name) (i : ℕ) → AreUnique ts → StandsAt ts name i → mark_of ts name ≡ Some (mark_at ts i)
 mark_of_named ts name i u s = subst (λ n. mark_of ts n ≡ Some (mark_at ts i)) s.is (mark_of_at ts i u s.within)
 
@@ -42,7 +42,7 @@ with_mark_at (t ∷ ts) (suc i) mark u h =
     ap (λ b. cond b ((t.0, mark) ∷ ts) (t ∷ with_mark ts (name_at ts i) mark)) (unique_head t ts i u (omega arith))
     ∙ ap (λ r. t ∷ r) (with_mark_at ts i mark (unique_tail t ts u) (omega arith))
 
--- a name at no place isn't there
+-- a name at no index isn't there
 absent_where : (ts : Table) (name : Name) → ((i : ℕ) → i < length ts → name_at ts i ≡ name → ⊥) → mark_of ts name ≡ None
 absent_where [] name h = refl
 absent_where (t ∷ ts) name h =
@@ -73,7 +73,7 @@ pub with_mark_absent : (ts : Table) (name : Name) (mark : Bool) → mark_of ts n
 with_mark_absent [] name mark h = refl
 with_mark_absent (t ∷ ts) name mark h = grind (arith, with_mark_absent ts name mark)
 
--- where a name that is there stands
+-- where a name that is there is there
 pub stands : (ts : Table) (name : Name) (mark : Bool) → mark_of ts name ≡ Some mark → (i : ℕ) × (i < length ts) × (name_at ts i ≡ name) × (mark_at ts i ≡ mark)
 stands [] name mark h = absurd (cc)
 stands (t ∷ ts) name mark h = at (same_name name t.0) refl h (λ r. stands ts name mark r)
@@ -94,7 +94,7 @@ nth_none [] i h = refl
 nth_none (t ∷ ts) zero h = absurd (omega arith)
 nth_none (t ∷ ts) (suc i) h = nth_none ts i (omega arith)
 
--- ---- by place, in a table that was changed
+-- ---- by index, in a table that was changed
 
 pub mark_within : (ts : Table) (i : ℕ) → mark_at ts i ≡ true → i < length ts
 mark_within [] i h = absurd (false≢true h)

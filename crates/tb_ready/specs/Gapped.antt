@@ -6,6 +6,6 @@ pub record Listed : Type 0 where
   pub items : List ℕ
   pub capacity : ℕ
 
--- the list of which those after the gap, so many, stand first
+-- the list of which those after the gap, so many, are first
 abbrev pub joined : ℕ → List ℕ → List ℕ
 joined behind ring = drop behind ring ++ take behind ring

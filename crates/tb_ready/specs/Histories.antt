@@ -7,7 +7,7 @@ use Rattle.tb_model.specs.Names.{Name}
 use Rattle.tb_model.specs.Facts.{History, ends, is_spawned}
 use Rattle.tb_ready.specs.Tasks.{mark_of, with_name, without_name, with_mark}
 
--- the mark of t behind H, that it hasn't ended, and None where it wasn't generated
+-- the mark of t after H, that it hasn't ended, and None where it wasn't generated
 abbrev pub mark_behind : History → Name → Option Bool
 mark_behind H t = if is_spawned H t then Some (not (list_any (ends t) H)) else None
 

@@ -20,7 +20,7 @@ abbrev pub are_kept : List (Name × ℕ) → List (Option Bool) → Bool
 are_kept [] slots = true
 are_kept (e ∷ es) slots = is_some (slice_index_or slots e.1 None) && (not (has_key es e.1) && are_kept es slots)
 
--- the name and the mark at a place
+-- the name and the mark at an index
 abbrev pub name_at : List (Name × Bool) → ℕ → Name
 name_at [] i = []
 name_at (t ∷ ts) zero = t.0
@@ -31,17 +31,17 @@ mark_at [] i = false
 mark_at (t ∷ ts) zero = t.1
 mark_at (t ∷ ts) (suc i) = mark_at ts i
 
--- the mark at a place is this
+-- the mark at an index is this
 abbrev pub set_at : List (Name × Bool) → ℕ → Bool → List (Name × Bool)
 set_at [] i mark = []
 set_at (t ∷ ts) zero mark = (t.0, mark) ∷ ts
 set_at (t ∷ ts) (suc i) mark = t ∷ set_at ts i mark
 
--- no name stands at two places
+-- no name is at two indexes
 abbrev pub AreUnique : List (Name × Bool) → Type 0
 AreUnique tasks = (i j : ℕ) → i < length tasks → j < length tasks → name_at tasks i ≡ name_at tasks j → i ≡ j
 
--- the name stands at the place
+-- the name is at the index
 pub record StandsAt (tasks : List (Name × Bool)) (name : Name) (at : ℕ) : Type 0 where
   pub within : at < length tasks
   pub is : name_at tasks at ≡ name

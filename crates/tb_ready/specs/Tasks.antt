@@ -15,7 +15,7 @@ pub record Tasks : Type 0 where
 abbrev pub mark_of : List (Name × Bool) → Name → Option Bool
 mark_of tasks name = lookup (same_name name) tasks
 
--- with one more name behind the others, unmarked, unless it is there
+-- with one more name after the others, unmarked, unless it is there
 abbrev pub with_name : List (Name × Bool) → Name → List (Name × Bool)
 with_name tasks name = if is_some (mark_of tasks name) then tasks else tasks ++ (name, false) ∷ []
 
@@ -38,12 +38,12 @@ IsLeast tasks skip (Some least) =
     IsTrue (is_candidate tasks skip least)
     × ((name : Name) → IsTrue (is_candidate tasks skip name) → IsTrue (is_le (name_cmp least name)))
 
--- the name comes behind the other, where there is one
+-- the name comes after the other, where there is one
 abbrev pub IsBehind : Option Name → Name → Type 0
 IsBehind None name = ⊤
 IsBehind (Some after) name = name_cmp after name ≡ Less
 
--- the name is marked, and comes behind the other
+-- the name is marked, and comes after the other
 pub record IsMarkedBehind (tasks : List (Name × Bool)) (after : Option Name) (name : Name) : Type 0 where
   pub marked : IsTrue (unwrap_or (mark_of tasks name) false)
   pub behind : IsBehind after name

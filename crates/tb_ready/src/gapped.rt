@@ -1,4 +1,4 @@
-//! A list of places with a gap, where one is put in or taken out at once.
+//! A list of indexes with a gap, where one is put in or taken out at once.
 
 ghost use Rattle.std.specs.Prelude.{◌≡◌, ◌<◌, ◌≤◌, ◌+◌, ◌^◌, [], OnOk, OnErr, length, insert, map, remove, slice_index};
 ghost use Rattle.std.specs.VecDeque.{deque_capacity};
@@ -9,13 +9,13 @@ use std::alloc::{AllocError, Global};
 use std::collections::VecDeque;
 use std::marker::Model;
 
-/// A list of places. One is put in or taken out at the gap; the gap moves there first, over what lies between, which takes
-/// no memory.
+/// A list of indexes. One is put in or taken out at the gap; the gap moves there first, over what
+/// lies between, which takes no memory.
 #[derive(Drop)]
 pub(crate) struct Gapped {
-    // those after the gap, and then those in front of it
+    // the indexes after the gap, and then those in front of it
     ring: VecDeque<usize>,
-    // how many stand after the gap
+    // how many are after the gap
     behind: usize,
 }
 
@@ -32,7 +32,7 @@ impl Model for Gapped {
 }
 
 impl Gapped {
-    /// No place. Takes no memory.
+    /// No index. Takes no memory.
     pub(crate) fn new(alloc: Global) -> Gapped
         ensures { result.items ≡ [] }
     {
@@ -42,7 +42,7 @@ impl Gapped {
         }
     }
 
-    /// How many places there are.
+    /// How many indexes there are.
     #[tactic(auto, using(crate::proofs::GappedLemmas::length_joined))]
     #[inline(always)]
     pub(crate) fn len(&self) -> usize
@@ -52,7 +52,7 @@ impl Gapped {
         self.ring.len()
     }
 
-    /// The kth place, from 0.
+    /// The kth index, from 0.
     #[inline(always)]
     pub(crate) fn at(&self, k: usize) -> usize
         requires { k < length self.now.items }
@@ -66,7 +66,7 @@ impl Gapped {
         }
     }
 
-    /// Makes the room for some more, and changes nothing else.
+    /// Reserves the capacity for some more, and changes nothing else.
     #[tactic(auto, using(crate::proofs::GappedLemmas::length_joined))]
     pub(crate) fn reserve(&mut self, additional: usize) -> Result<(), AllocError>
         ensures items { self.new.items ≡ self.old.items }
@@ -81,7 +81,7 @@ impl Gapped {
         self.ring.reserve(additional.saturating_mul(2))
     }
 
-    /// Puts one in at this place, in the room that is there.
+    /// Puts one in at this index, in the capacity that is there.
     #[inline(always)]
     pub(crate) fn insert(&mut self, place: usize, at: usize)
         requires within { place ≤ length self.old.items }
@@ -93,7 +93,7 @@ impl Gapped {
         self.ring.push_back_reserved(at);
     }
 
-    /// Takes the one at this place out.
+    /// Takes the one at this index out.
     #[inline(always)]
     pub(crate) fn remove(&mut self, place: usize)
         requires { place < length self.old.items }
@@ -114,7 +114,7 @@ impl Gapped {
     }
 }
 
-/// Moves the gap to this place, and returns how many stand after it then.
+/// Moves the gap to this index, and returns how many are after it then.
 #[inline(always)]
 fn turned(ring: &mut VecDeque<usize>, behind: usize, place: usize) -> usize
     requires behind { behind ≤ length ring.old.items }

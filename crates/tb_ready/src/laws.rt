@@ -74,7 +74,7 @@ pub fn back()
         AreMarks H new }
 {}
 
-/// A task that comes to stand isn't there yet.
+/// A task that comes to be isn't there yet.
 pub fn conditions()
     ensures added { (cells : Cells) (H : History) (v : Event) (s : TheSpawn)
         (tasks : List (Name × Bool)) → Legal cells (v ∷ H) → v.action ≡ Spawn s →

@@ -1,4 +1,4 @@
-//! Names and their marks, by place.
+//! Names and their marks, by index.
 
 ghost use Rattle.std.specs.Prelude.{◌≡◌, ◌<◌, ◌≤◌, ◌+◌, [], ◌∷◌, ◌++◌, OnOk, OnErr, IsOk, IfSome, IsSome, IsTrue, Some, None, false, length, slice_get, remove};
 ghost use Rattle.std.specs.List.{IsDistinct};
@@ -18,7 +18,7 @@ use tb_model::TaskName;
 pub(crate) struct Names {
     keys: IndexMap<TaskName, usize>,
     marks: Slab<bool>,
-    // the place that changed last: mostly its name is asked for again, or the one behind it
+    // the index that changed last: mostly its name is asked for again, or the one after it
     near: usize,
 }
 
@@ -60,7 +60,7 @@ impl Names {
         self.keys.len()
     }
 
-    /// The place of a name.
+    /// The index of a name.
     pub(crate) fn find(&self, name: &TaskName) -> Option<usize>
         ensures found { IfSome result (StandsAt self.now.tasks name.now) }
         ensures absent { result ≡ None → mark_of self.now.tasks name.now ≡ None }
@@ -76,7 +76,7 @@ impl Names {
         self.keys.get_index_of(name)
     }
 
-    /// The place of a name, mostly this one.
+    /// The index of a name, mostly this one.
     pub(crate) fn find_near(&self, near: usize, name: &TaskName) -> Option<usize>
         ensures found { IfSome result (StandsAt self.now.tasks name.now) }
         ensures absent { result ≡ None → mark_of self.now.tasks name.now ≡ None }
@@ -88,12 +88,12 @@ impl Names {
         self.find(name)
     }
 
-    /// The place that changed last.
+    /// The index that changed last.
     pub(crate) fn near(&self) -> usize {
         self.near
     }
 
-    /// Whether the name stands at the place.
+    /// Whether the name is at the index.
     fn stands_at(&self, at: usize, name: &TaskName) -> bool
         ensures stands { IsTrue result → StandsAt self.now.tasks name.now at }
         ensures unique { AreUnique self.now.tasks }
@@ -104,7 +104,7 @@ impl Names {
         }
     }
 
-    /// The name at a place.
+    /// The name at an index.
     #[tactic(auto, using(crate::proofs::LayoutLemmas::length_tasks))]
     pub(crate) fn name(&self, at: usize) -> &TaskName
         requires { at < length self.now.tasks }
@@ -114,7 +114,7 @@ impl Names {
         entry(&self.keys, at).0
     }
 
-    /// Whether the name at a place is marked.
+    /// Whether the name at an index is marked.
     #[tactic(auto, using(crate::proofs::LayoutLemmas::length_tasks))]
     pub(crate) fn is_marked(&self, at: usize) -> bool
         requires { at < length self.now.tasks }
@@ -125,7 +125,7 @@ impl Names {
         self.marks[key]
     }
 
-    /// Sets the mark of the name at a place.
+    /// Sets the mark of the name at an index.
     #[tactic(auto, using(crate::proofs::LayoutLemmas::length_tasks))]
     pub(crate) fn set(&mut self, at: usize, marked: bool)
         requires { at < length self.old.tasks }
@@ -137,7 +137,7 @@ impl Names {
         self.near = at;
     }
 
-    /// Makes the room for one more name.
+    /// Reserves the capacity for one more name.
     pub(crate) fn reserve(&mut self) -> Result<(), AllocError>
         ensures tasks { self.new.tasks ≡ self.old.tasks }
         ensures room { OnOk result (0 < self.new.room) }
@@ -148,7 +148,7 @@ impl Names {
         self.marks.reserve(1)
     }
 
-    /// Adds a name behind the others, unmarked, in the room that is there.
+    /// Adds a name after the others, unmarked, in the capacity that is there.
     pub(crate) fn push(&mut self, name: TaskName)
         requires room { 0 < self.old.room }
         requires absent { mark_of self.old.tasks name ≡ None }
@@ -160,7 +160,7 @@ impl Names {
         self.keys.insert(name, key).unwrap();
     }
 
-    /// Removes the name at a place. Those behind it move up.
+    /// Removes the name at an index. Those after it move up.
     #[tactic(auto, using(crate::proofs::LayoutLemmas::length_tasks))]
     pub(crate) fn remove(&mut self, at: usize)
         requires { at < length self.old.tasks }
@@ -174,7 +174,7 @@ impl Names {
     }
 }
 
-/// The name at a place, and the key of its record.
+/// The name at an index, and the key of its record.
 fn entry(keys: &IndexMap<TaskName, usize>, at: usize) -> (&TaskName, usize)
     requires { at < length keys.now.entries }
     ensures { slice_get keys.now.entries at ≡ Some (result.0.now, result.1) }

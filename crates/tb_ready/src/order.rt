@@ -1,4 +1,4 @@
-//! The order of the marked names, as a list of their places.
+//! The order of the marked names, as a list of their indexes.
 
 ghost use Rattle.std.specs.Prelude.{◌≡◌, ◌≢◌, ◌<◌, ◌≤◌, ◌+◌, ◌^◌, IfSome, IsTrue, false, true, length, remove, slice_index};
 ghost use Rattle.std.specs.Option.{option_copied};
@@ -21,7 +21,7 @@ fn marked<'a>(names: &'a Names, order: &Gapped, k: usize) -> &'a TaskName
     names.name(order.at(k))
 }
 
-/// Where a name goes among the marked ones, by a binary search that begins at a place near by.
+/// Where a name goes among the marked ones, by a binary search that begins at an index close by.
 fn place_of(names: &Names, order: &Gapped, near: usize, name: &TaskName) -> usize
     requires { IsOrder names.now.tasks order.now.items }
     ensures { IsPlace names.now.tasks order.now.items name.now result }
@@ -41,8 +41,9 @@ fn place_of(names: &Names, order: &Gapped, near: usize, name: &TaskName) -> usiz
     low
 }
 
-/// Which place between these is looked at in this round of a search: the one near by, and then some on the side of it to
-/// which the search turns, each farther from the last one, come before the halves.
+/// Which index between these is looked at in this round of a search: the one close by, and then
+/// some on the side of it to which the search turns, each farther from the last one, come before
+/// the halves.
 fn probe(low: usize, high: usize, len: usize, near: usize, round: u8) -> usize
     requires { low < high }
     ensures from { low ≤ result }
@@ -57,8 +58,8 @@ fn probe(low: usize, high: usize, len: usize, near: usize, round: u8) -> usize
     }
 }
 
-/// Marks the name at a place, which isn't, and tells where it goes among the marked ones. The list
-/// has room.
+/// Marks the name at an index, which isn't, and returns where it goes among the marked ones. The
+/// list has capacity.
 fn put_in(names: &mut Names, order: &mut Gapped, near: usize, at: usize) -> usize
     requires order { IsOrder names.old.tasks order.old.items }
     requires there { at < length names.old.tasks }
@@ -75,7 +76,7 @@ fn put_in(names: &mut Names, order: &mut Gapped, near: usize, at: usize) -> usiz
     place
 }
 
-/// Where the name at a place, which is marked, is among the marked ones: mostly near by.
+/// Where the name at an index, which is marked, is among the marked ones: mostly close by.
 #[inline(always)]
 fn place_among(names: &Names, order: &Gapped, near: usize, at: usize) -> usize
     requires order { IsOrder names.now.tasks order.now.items }
@@ -94,7 +95,7 @@ fn place_among(names: &Names, order: &Gapped, near: usize, at: usize) -> usize
     }
 }
 
-/// Whether the name at a place is the kth of the marked ones.
+/// Whether the name at an index is the kth of the marked ones.
 #[inline(always)]
 fn is_at(order: &Gapped, k: usize, at: usize) -> bool
     ensures { IsTrue result → (k < length order.now.items) × (slice_index order.now.items k ≡ at) }
@@ -102,8 +103,8 @@ fn is_at(order: &Gapped, k: usize, at: usize) -> bool
     k < order.len() && order.at(k) == at
 }
 
-/// Unmarks the name at a place, which is marked, and tells where it was among the marked ones. The
-/// list keeps its room.
+/// Unmarks the name at an index, which is marked, and returns where it was among the marked ones.
+/// The list retains its capacity.
 fn take_out(names: &mut Names, order: &mut Gapped, near: usize, at: usize) -> usize
     requires order { IsOrder names.old.tasks order.old.items }
     requires there { at < length names.old.tasks }
@@ -119,7 +120,7 @@ fn take_out(names: &mut Names, order: &mut Gapped, near: usize, at: usize) -> us
     place
 }
 
-/// Sets the mark of the name at a place. Tells a place among the marked names that is near by.
+/// Sets the mark of the name at an index. Returns an index among the marked names that is close by.
 pub(crate) fn set_mark(
     names: &mut Names,
     order: &mut Gapped,
@@ -145,7 +146,8 @@ pub(crate) fn set_mark(
     }
 }
 
-/// Removes the name at a place, marked or not. Tells a place among the marked names that is near by.
+/// Removes the name at an index, marked or not. Returns an index among the marked names that is
+/// close by.
 #[tactic(auto, using(crate::proofs::TasksLemmas::length_set, crate::proofs::TasksLemmas::mark_set_here, crate::proofs::TasksLemmas::remove_set))]
 pub(crate) fn forget(names: &mut Names, order: &mut Gapped, near: usize, at: usize) -> usize
     requires order { IsOrder names.old.tasks order.old.items }
@@ -162,7 +164,7 @@ pub(crate) fn forget(names: &mut Names, order: &mut Gapped, near: usize, at: usi
     place
 }
 
-/// Moves the places behind one that goes, whose name is unmarked.
+/// Moves the indexes after one that goes, whose name is unmarked.
 fn close_gap(names: &Names, order: &mut Gapped, gone: usize)
     requires order { IsOrder names.now.tasks order.old.items }
     requires there { gone < length names.now.tasks }
@@ -170,7 +172,7 @@ fn close_gap(names: &Names, order: &mut Gapped, gone: usize)
     ensures order { IsOrder (remove names.now.tasks gone) order.new.items }
     ensures capacity { order.old.capacity ≤ order.new.capacity }
 {
-    // after the last name no place moves
+    // after the last name no index moves
     if gone == names.len() - 1 {
         return;
     }
@@ -191,8 +193,9 @@ pub(crate) fn least<'a>(names: &'a Names, order: &Gapped, skip: &[TaskName]) -> 
     None
 }
 
-/// The place of the first marked name behind this one, or of the first of all: mostly right after the place at which a walk
-/// is, or near by, since a task of which it is asked has mostly just generated its last children.
+/// The index of the first marked name after this one, or of the first of all: mostly right after
+/// the index at which a walk is, or close by, since a task of which it is asked has mostly just
+/// generated its last children.
 fn place_behind(
     names: &Names,
     order: &Gapped,
@@ -236,7 +239,8 @@ fn is_named(names: &Names, order: &Gapped, k: usize, name: &TaskName) -> bool
     k < order.len() && *marked(names, order, k) == *name
 }
 
-/// The least marked name behind this one, or the least of all. A walk hands on the place where it is.
+/// The least marked name after this one, or the least of all. A walk hands on the index where it
+/// is.
 pub(crate) fn next_marked<'a>(
     names: &'a Names,
     order: &Gapped,
@@ -256,7 +260,7 @@ pub(crate) fn next_marked<'a>(
     }
 }
 
-/// The place of the kth of the marked names, if there are as many.
+/// The index of the kth of the marked names, if there are as many.
 pub(crate) fn index_of(names: &Names, order: &Gapped, k: usize) -> Option<usize>
     requires { IsOrder names.now.tasks order.now.items }
     ensures { IfSome result (λ i. i < length names.now.tasks) }

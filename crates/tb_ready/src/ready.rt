@@ -19,8 +19,8 @@ use tb_model::TaskName;
 #[derive(Drop)]
 pub struct Ready {
     names: Names,
-    // the places of the marked names, by rising name, with room for all names; tasks mostly come and
-    // go near those that came or went before
+    // the indexes of the marked names, by rising name, with capacity for all names; tasks mostly
+    // come and go close to those that came or went before
     order: Gapped,
     // where in that order a mark changed last: mostly the next change is there too
     near: usize,
@@ -94,7 +94,7 @@ impl Ready {
         least(&self.names, &self.order, skip)
     }
 
-    /// The least marked name behind this one, or the least of all where none is given.
+    /// The least marked name after this one, or the least of all where none is given.
     pub fn next_marked(&self, after: Option<&TaskName>) -> Option<&TaskName>
         ensures { IsLeastName (IsMarkedBehind self.now.tasks (option_copied after.entry)) (option_copied result) }
     {
@@ -102,7 +102,7 @@ impl Ready {
         self.walk_marked(&mut walk, after)
     }
 
-    /// The least marked name behind this one, or the least of all, in a walk over the marked names:
+    /// The least marked name after this one, or the least of all, in a walk over the marked names:
     /// `walk` is handed on, at first any, so each is found right after the one before it.
     pub fn walk_marked(&self, walk: &mut usize, after: Option<&TaskName>) -> Option<&TaskName>
         ensures { IsLeastName (IsMarkedBehind self.now.tasks (option_copied after.entry)) (option_copied result) }
@@ -118,7 +118,7 @@ impl Ready {
         index_of(&self.names, &self.order, walk)
     }
 
-    /// Makes the room that `add` needs, whatever the name, and changes nothing else.
+    /// Reserves the capacity that `add` needs, whatever the name, and changes nothing else.
     pub fn reserve_add(&mut self, _name: &TaskName) -> Result<(), AllocError>
         ensures tasks { self.new.tasks ≡ self.old.tasks }
         ensures room { OnOk result (0 < self.new.room) }
@@ -129,8 +129,8 @@ impl Ready {
         self.order.reserve(self.names.len() - self.order.len() + 1)
     }
 
-    /// Adds a name behind the others, unmarked. One that is there stays as it is, and needs no
-    /// memory. With room none is taken, and `mark` never takes any.
+    /// Adds a name after the others, unmarked. One that is there stays as it is, and needs no
+    /// memory. With capacity none is taken, and `mark` never takes any.
     pub fn add(&mut self, name: TaskName) -> Result<(), AllocError>
         ensures tasks { OnOk result (self.new.tasks ≡ with_name self.old.tasks name) }
         ensures err { OnErr result (self.new.tasks ≡ self.old.tasks) }
@@ -146,7 +146,7 @@ impl Ready {
         Ok(())
     }
 
-    /// Adds a name that isn't there behind the others, unmarked, in the room that there is.
+    /// Adds a name that isn't there after the others, unmarked, in the capacity that there is.
     #[inline(always)]
     pub fn add_reserved(&mut self, name: TaskName)
         requires absent { mark_of self.old.tasks name ≡ None }

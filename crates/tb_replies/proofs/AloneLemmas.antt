@@ -129,7 +129,7 @@ module _ (s : Session) where
   pub none_fits : (new : Session) → LeastStepsFor 1 s new (Err Full) → (stop_of s ≢ None) × (new ≡ s)
   none_fits new h = (idle_or (why_paused s.control.mode) (why_idle (least_task s) (is_full s)) (full_stops (least_task s) (is_full s) h.2), h.0)
 
-  -- the turn is taken and told
+  -- the turn is executed and written
   pub turn_taken : HasNoClaims s → is_paused s.control.mode ≡ false → (new : Session) (id : StepId) (before after : List ℕ) → LeastStepsFor 1 s new (Ok (Some id)) → after ≡ before ++ newest_line new id → TakesTurn s before after new true
   turn_taken free on new id before after h told =
       let t = h.0 in

@@ -11,7 +11,7 @@ use Rattle.tb_team.specs.declared.stop.Stop.TheVariants.{Full}
 use Rattle.tb_replies.specs.Texts.{newest_line, told_step}
 use Rattle.tb_replies.specs.Course.{Course, stopped, behind, course}
 
--- the line of a step that was taken is that of the task's next step
+-- the line of a step that was executed is that of the task's next step
 pub step_told : (seat : ℕ) (s new : Session) (t : Name) (i : StepId) → StepsFor seat s t new i → newest_line new i ≡ told_step s t
 step_told seat s new t i h = ap₂ newest_line h.now h.id
 
@@ -26,7 +26,7 @@ behind_both text more n m c =
 pub behind_nothing : (c : Course) → behind [] 0 c ≡ c
 behind_nothing c = ap (λ n. record { lines = c.lines; count = n; stop = c.stop; session = c.session }) (omega arith)
 
--- after some steps, no more are taken
+-- after some steps, no more are executed
 pub behind_stopped : (text : List ℕ) (n : ℕ) (why : Stop) (s : Session) → behind text n (stopped why s) ≡ record { lines = text; count = n; stop = why; session = s }
 behind_stopped text n why s =
     let count : n + 0 ≡ n = omega arith in
@@ -44,11 +44,11 @@ course_full most left s t e least full = rw (e, least, full) refl
 
 -- ---- a course that goes on
 
--- the rest of the course stands after the steps so far
+-- the rest of the course is after the steps so far
 abbrev pub Going : Course → List ℕ → ℕ → ℕ → Session → Type 0
 Going all text count left s = all ≡ behind text count (course left s)
 
--- a step was taken, of the least task, and this is its identity
+-- a step was executed, of the least task, and this is its identity
 abbrev pub IsTaken : Session → Session → StepId → Type 0
 IsTaken s new i = (t : Name) × (least_task s ≡ Some t) × StepsFor 0 (resumed s) t new i
 

@@ -1,4 +1,4 @@
--- The steps that stand, told in pieces.
+-- The steps that are there, written in pieces.
 use Rattle.std.proofs.Common.{◌≡◌, ◌≤◌, ◌+◌, ℕ, suc, List, [], ◌∷◌, ◌++◌, map, reverse, take, drop, length, refl, sym, ap, ap₂, ◌∙◌, append_assoc, append-nil, subst, Option}
 use Rattle.std.proofs.lemmas.List.{take_all, take-append-drop, length-map, length-reverse}
 use Rattle.std.specs.Fmt.{decimal}
@@ -41,7 +41,7 @@ text_begins P entries start i =
     let more = lines_begin P later front in
     (more.0, ap (λ H. start ++ history_lines P H) cut ∙ ap (λ l. start ++ l) more.1 ∙ sym (append_assoc start (history_lines P front) more.0))
 
--- ---- step by step, behind a text
+-- ---- step by step, after a text
 
 module _ (P : Program) (entries : List Entry) (start : List ℕ) where
   -- with the lines of so many steps
@@ -57,7 +57,7 @@ module _ (P : Program) (entries : List Entry) (start : List ℕ) where
   line_waits a b i v counts text more read are t grows =
       told_on a b text more _ _ t (λ front is. told_more P entries i v counts start (front ++ text) (front ++ more) read are is (longer front text _ more grows))
 
-  -- no more are told
+  -- no more are written
   pub lines_begun : (a b : Option (List ℕ)) (i : ℕ) (text : List ℕ) → Told a b text (λ told. told ≡ so_far i) → WroteFront a b all_told
   lines_begun a b i text t =
       let more = text_begins P entries start i in
@@ -84,7 +84,7 @@ module _ (s : Session) (P : Program) (entries : List Entry) (head : List ℕ) (b
       ap₂ (λ (l : List ℕ) (Q : Program). l ++ history_lines Q (history_of entries)) (begins ∙ ap (λ n. line (codes "hist " ++ decimal n)) (as_many entries)) program
       ∙ ap (λ H. history_text s.program H) same
 
-  -- all of it is told
+  -- all of it is written
   pub history_told : (a b : Option (List ℕ)) (text : List ℕ) → Told a b text (λ told. told ≡ head ++ history_lines P (history_of entries)) → Told a b text (λ out. Reply s (Show Hist) out s)
   history_told a b text t = told_on a b text text _ _ t (λ front is. (is ∙ is_shown, refl))
 

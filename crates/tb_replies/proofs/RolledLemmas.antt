@@ -1,4 +1,4 @@
--- What a rollback took back is told as the history says.
+-- What a rollback took back is written as the history says.
 use Rattle.std.proofs.Common.{◌≡◌, ℕ, suc, List, [], ◌∷◌, ◌++◌, Bool, true, false, cond, length, reverse, refl, sym, ap, ap₂, ◌∙◌, subst, append_assoc, append-nil, None}
 use Rattle.std.proofs.lemmas.List.{length-reverse, reverse-append}
 use Rattle.tb_model.specs.declared.event.Event.{Event}
@@ -19,7 +19,7 @@ lines_append : (P : Program) (rs more : List Removed) → removal_lines P (rs ++
 lines_append P [] more = refl
 lines_append P (r ∷ rs) more = ap (λ l. removal_line P r ++ l) (lines_append P rs more) ∙ sym (append_assoc (removal_line P r) (removal_lines P rs) (removal_lines P more))
 
--- what goes with v, behind H
+-- what goes with v, after H
 abbrev gone : History → Event → Removed
 gone H v = record { id = step_of H v; action = v.action }
 

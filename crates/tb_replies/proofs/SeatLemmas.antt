@@ -1,4 +1,4 @@
--- A session keeps its seats.
+-- A session retains its seats.
 use Rattle.std.proofs.Common.{lit<, ◌≡◌, ◌<◌, ℕ, zero, suc, List, [], ◌∷◌, length, Bool, true, false, cond, Option, Some, None, refl, sym, ap, ◌∙◌, subst}
 use Rattle.std.proofs.lemmas.List.{length-map}
 use Rattle.tb_model.specs.declared.step_id.StepId.{StepId}

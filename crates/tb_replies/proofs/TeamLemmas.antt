@@ -1,4 +1,4 @@
--- What several workers did is a course of their turns, told by the newest steps.
+-- What several workers did is a course of their turns, known by the newest steps.
 use Rattle.std.proofs.Common.{◌≡◌, ◌≤◌, ◌+◌, ℕ, suc, List, [], ◌∷◌, ◌++◌, length, map, reverse, Some, refl, sym, ap, ap₂, ◌∙◌, arith, append_assoc, append-nil}
 use Rattle.std.proofs.lemmas.List.{length-map, length-reverse}
 use Rattle.tb_model.specs.Names.{Name}

@@ -74,7 +74,7 @@ steps_extend all count left s told going =
     let lines : all.lines ≡ told ++ rest.lines = ap (λ (c : Course). c.lines) going in
     (course_text all, all.session, rest.lines ++ end_of all, (refl, refl), ap (λ l. l ++ end_of all) lines ∙ append_assoc told rest.lines (end_of all))
 
--- of a course behind a text, so many steps were taken
+-- of a course after a text, so many steps were executed
 module _ (start : List ℕ) (most : ℕ) (old : Session) where
   -- one more was taken, and its line waits
   pub step_waits : (a b : Option (List ℕ)) (count : ℕ) (s new : Session) (text more : List ℕ) (i : StepId)
@@ -84,7 +84,7 @@ module _ (start : List ℕ) (most : ℕ) (old : Session) where
       told_on a b text more _ _ t
       (λ front going. course_goes_on (behind start 0 (course most old)) most count s new (front ++ text) (front ++ more) i within going taken (longer front text (newest_line new i) more e))
 
-  -- no more are told
+  -- no more are written
   pub steps_begin : (a b : Option (List ℕ)) (count : ℕ) (s : Session) (text : List ℕ) → Told a b text (λ told. Going (behind start 0 (course most old)) told count (most - count) s) → Begins (RunReply (behind start 0 (course most old))) a b
   steps_begin a b count s text t = begins_told a b text _ _ t (steps_extend (behind start 0 (course most old)) count (most - count) s)
 
@@ -102,7 +102,7 @@ pub course_extends : (all : Course) (taken : Taken) (new : Session) → Extends 
 course_extends all taken new told is =
     (course_text all, all.session, end_of all, (refl, refl), ap (λ (c : Course). c.lines ++ end_of all) is)
 
--- with its last line the course is told
+-- with its last line the course is written
 pub course_told : (all : Course) (told : List ℕ) (taken : Taken) (new : Session) → IsCourse all told taken new
     → RunReply all (told ++ last_line taken.count taken.stop) new
 course_told all told taken new is = (sym (ap course_text is), sym (ap (λ (c : Course). c.session) is))
@@ -137,14 +137,14 @@ turns_extend most count old first s begins told u =
     let go : IsGo 1 most old all = (whole.0, subst (λ z. Goes 1 whole.0 z all) begins whole.1) in
     (course_text all, all.session, rest.lines ++ end_of all, (all, go, (refl, refl)), append_assoc told rest.lines (end_of all))
 
--- a turn was taken, and its line waits
+-- a turn was executed, and its line waits
 pub turn_waits : (a b : Option (List ℕ)) (first s new : Session) (most count : ℕ) (text more : List ℕ)
     → count < most → Told a b text (λ told. UnderWay first most count told s) → TakesTurn s text more new true → Told a b more (λ told. UnderWay first most (count + 1) told new)
 turn_waits a b first s new most count text more within t h =
     told_on a b text more _ _ t (λ front u. turns_on first s new most count (front ++ text) (front ++ more) within u
     (h.0, (h.1.0, h.1.1, longer front text (told_step s h.1.0) more h.1.2, h.1.3)))
 
--- no more are told
+-- no more are written
 pub turns_begin : (a b : Option (List ℕ)) (most count : ℕ) (old first s : Session) (text : List ℕ) → first ≡ started most old → Told a b text (λ told. UnderWay first most count told s) → Begins (GoReply 1 most old) a b
 turns_begin a b most count old first s text begins t = begins_told a b text _ _ t (turns_extend most count old first s begins)
 
@@ -162,7 +162,7 @@ pub whole_told : (most : ℕ) (old new : Session) (taken : Taken) (told : List �
     → GoReply 1 most old (told ++ last_line taken.count taken.stop) new
 whole_told most old new taken told go = (record { lines = told; count = taken.count; stop = taken.stop; session = new }, go, (refl, refl))
 
--- nothing more is told but the last line
+-- nothing more is written but the last line
 pub turns_told : (a b : Option (List ℕ)) (most count : ℕ) (old first s at new : Session) (text last : List ℕ) (taken : Taken) → first ≡ started most old → Told a b text (λ told. UnderWay first most count told s)
     → last ≡ text → at ≡ s → Stops at count new taken → Told a b last (λ told. IsWhole most old told new taken)
 turns_told a b most count old first s at new text last taken begins t same claim h =

@@ -46,7 +46,7 @@ opened_sound text P limit h = record { well_formed = accepted_well_formed (numbe
 resumed_sound : (s : Session) → IsSound s → IsSound (resumed s)
 resumed_sound s h = record { well_formed = h.well_formed; sound = h.sound }
 
--- behind the next event of a task
+-- after the next event of a task
 stepped_sound : (seat : ℕ) (s : Session) (t : Name) → IsSound s → IsNext s.program (history s) (coming s t) → IsSound (stepped_by seat s t)
 stepped_sound seat s t h next = record { well_formed = h.well_formed; sound = (h.sound, next) }
 
@@ -76,7 +76,7 @@ course_sound : (most : ℕ) (s : Session) → IsSound s → IsSound (course most
 course_sound zero s h = h
 course_sound (suc most) s h = next_sound (resumed s) (least_task s) most (course_sound most) refl (resumed_sound s h)
 
--- what isn't refused stands
+-- what isn't refused is there
 stands_unless : (b : Bool) (first other : Option (List ℕ)) (r : List ℕ) → first ≡ Some r → cond (not b) first other ≡ None → IsTrue b
 stands_unless true first other r e h = refl
 stands_unless false first other r e h = cc
@@ -237,7 +237,7 @@ one_reply_to s new other (Go workers most) out more some few a b =
     le_antisymm a b = omega (arith, a, b)
 one_reply_to s new other (Fault fault) out more some few a b = (a.0 ∙ sym b.0, a.1 ∙ sym b.1)
 
--- but for a go of several workers
+-- a line has one answer, but for a go of several workers
 pub one_answer : (limit : ℕ) (s new other : Session) (bytes out more : List ℕ) → (AsksSeveral limit bytes → ⊥) → Answers limit s bytes out new → Answers limit s bytes more other → (out ≡ more) × (new ≡ other)
 one_answer limit s new other bytes out more few a b =
     one_reply_to s new other (asked limit bytes) out more (asked_has_workers limit bytes) (λ workers most e several. few (workers, most, e, several)) a b

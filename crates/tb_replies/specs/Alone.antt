@@ -20,7 +20,7 @@ HasNoClaims s = AreFreeFrom 0 s.control.claims
 abbrev pub IsUnderWay : Mode → Type 0
 IsUnderWay m = IsTrue (is_paused m) → why_paused m ≢ None
 
--- a turn is taken and told; or none follows
+-- a turn is executed and written; or none follows
 abbrev pub TakesTurn : Session → List ℕ → List ℕ → Session → Bool → Type 0
 TakesTurn s before after new true = (stop_of s ≡ None) × ((t : Name) × IsTurn 1 s 1 t × (after ≡ before ++ told_step s t) × (new ≡ turned 1 s t))
 TakesTurn s before after new false = (stop_of s ≢ None) × (after ≡ before) × (new ≡ s)
@@ -39,6 +39,6 @@ pub record Stops (s : Session) (count : ℕ) (new : Session) (taken : Taken) : T
   pub counted : taken.count ≡ count
   pub now : new ≡ settled s
 
--- the whole course is told
+-- the whole course is written
 abbrev pub IsWhole : ℕ → Session → List ℕ → Session → Taken → Type 0
 IsWhole most s text new taken = IsGo 1 most s (record { lines = text; count = taken.count; stop = taken.stop; session = new })

@@ -1,4 +1,4 @@
--- Steps one after another, why no more are taken, and how `run` takes them.
+-- Steps one after another, why no more are executed, and how `run` takes them.
 use Rattle.std.specs.Prelude.{◌≡◌, ℕ, zero, suc, ◌+◌, List, [], ◌++◌, codes, if◌then◌else◌, Option, Some, None}
 use Rattle.std.specs.Fmt.{decimal}
 use Rattle.tb_model.specs.Names.{Name}
@@ -12,14 +12,14 @@ use Rattle.tb_team.specs.declared.stop.Stop.{Stop}
 use Rattle.tb_team.specs.declared.stop.Stop.TheVariants.{Limit, Done, Full}
 use Rattle.tb_team.specs.Stops.{stop_word}
 
--- the steps' lines, how many they are, why no more are taken, and what they leave
+-- the steps' lines, how many they are, why no more are executed, and what they leave
 pub record Course : Type 0 where
   pub lines : List ℕ
   pub count : ℕ
   pub stop : Stop
   pub session : Session
 
--- no step is taken
+-- no step is executed
 abbrev pub stopped : Stop → Session → Course
 stopped why s = record { lines = []; count = 0; stop = why; session = s }
 
@@ -31,7 +31,7 @@ behind lines count c = record { lines = lines ++ c.lines; count = count + c.coun
 abbrev pub course_text : Course → List ℕ
 course_text c = c.lines ++ line (codes "ran " ++ decimal c.count ++ codes " " ++ stop_word c.stop)
 
--- the course's lines were told, and this is the rest of it
+-- the course's lines were written, and this is the rest of it
 abbrev pub IsCourse : Course → List ℕ → Taken → Session → Type 0
 IsCourse c told taken new = c ≡ record { lines = told; count = taken.count; stop = taken.stop; session = new }
 

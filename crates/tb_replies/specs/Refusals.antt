@@ -1,4 +1,4 @@
--- Why a step, an undo, a rollback or a breakpoint is refused, told: the first reason that holds.
+-- Why a step, an undo, a rollback or a breakpoint is refused, written: the first reason that holds.
 use Rattle.std.specs.Prelude.{ℕ, List, codes, not, if◌then◌else◌, option_map, Option, Some, None}
 use Rattle.std.specs.Option.{option_or}
 use Rattle.tb_model.specs.declared.step_id.StepId.{StepId}
@@ -33,7 +33,7 @@ refusal_line NoSuchTask = refused 1 (codes "NoSuchTask")
 refusal_line Ended = refused 2 (codes "Ended")
 refusal_line (By hindrance) = hindrance_line hindrance
 
--- what keeps the task itself comes before a full journal
+-- what blocks the task itself comes before a full journal
 abbrev pub step_refusal : Session → Name → Option (List ℕ)
 step_refusal s t = option_or (option_map refusal_line (refusal_for s t)) (if is_full s then Some (refused 7 (codes "Full")) else None)
 

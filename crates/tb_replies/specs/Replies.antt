@@ -28,7 +28,7 @@ use Rattle.tb_commands.specs.declared.command.Command.TheVariants.{Step, Undo, R
 use Rattle.tb_commands.specs.declared.asked.Asked.{Asked}
 use Rattle.tb_commands.specs.declared.asked.Asked.TheVariants.{Nothing, Command as Asks, Go, Fault}
 
--- a refusal changes nothing; else the task's next step is taken, and told
+-- a refusal changes nothing; else the task's next step is executed, and written
 abbrev pub StepReply : Option (List ℕ) → Session → Name → List ℕ → Session → Type 0
 StepReply (Some refusal) s t out new = (out ≡ refusal) × (new ≡ s)
 StepReply None s t out new = (out ≡ told_step s t) × (new ≡ stepped s t)
@@ -37,7 +37,7 @@ abbrev pub UndoReply : Option (List ℕ) → Session → StepId → List ℕ →
 UndoReply (Some refusal) s id out new = (out ≡ refusal) × (new ≡ s)
 UndoReply None s id out new = (out ≡ line (codes "undone " ++ step_id_text id)) × (new ≡ with_entry s (Rolled 0 id))
 
--- the step and all that need it go, and are told
+-- the step and all that need it go, and are written
 abbrev pub RolledReply : Option (List ℕ) → Session → StepId → List ℕ → Session → Type 0
 RolledReply (Some refusal) s id out new = (out ≡ refusal) × (new ≡ s)
 RolledReply None s id out new = (out ≡ rolled_text s id) × (new ≡ with_entry s (Rolled 0 id))
@@ -47,11 +47,11 @@ abbrev pub RollReply : Session → Option StepId → List ℕ → Session → Ty
 RollReply s None out new = (out ≡ refused 1 (codes "NoSuchStep")) × (new ≡ s)
 RollReply s (Some id) out new = RolledReply (roll_refusal s id) s id out new
 
--- the course is told, and taken
+-- the course is written, and executed
 abbrev pub RunReply : Course → List ℕ → Session → Type 0
 RunReply c out new = (out ≡ course_text c) × (new ≡ c.session)
 
--- the turns of so many workers, at most so many, are told and taken
+-- the turns of so many workers, at most so many, are written and executed
 abbrev pub GoReply : ℕ → ℕ → Session → List ℕ → Session → Type 0
 GoReply workers most s out new = (c : Course) × IsGo workers most s c × RunReply c out new
 

@@ -1,4 +1,4 @@
--- What a rollback tells: the step and all that need it, in the order of the history.
+-- What a rollback writes: the step and all that need it, in the order of the history.
 use Rattle.std.specs.Prelude.{ℕ, List, [], ◌∷◌, ◌++◌, length, codes, if◌then◌else◌, Option, Some}
 use Rattle.std.specs.Fmt.{decimal}
 use Rattle.tb_model.specs.declared.step_id.StepId.{StepId}

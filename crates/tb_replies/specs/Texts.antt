@@ -33,7 +33,7 @@ fault_word BadNumber = codes "number"
 
 -- ---- steps
 
--- the line of the newest event that stands, of which this is the step
+-- the line of the newest event that is there, of which this is the step
 abbrev pub newest_line : Session → StepId → List ℕ
 newest_line s i = line_if_any s.program i (slice_get (history s) 0)
 
@@ -41,6 +41,6 @@ newest_line s i = line_if_any s.program i (slice_get (history s) 0)
 abbrev pub told_step : Session → Name → List ℕ
 told_step s t = step_line s.program (history s) (coming s t)
 
--- behind the task's next step, by the session itself
+-- after the task's next step, by the session itself
 abbrev pub stepped : Session → Name → Session
 stepped = stepped_by 0

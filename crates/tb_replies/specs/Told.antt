@@ -42,25 +42,26 @@ failures_at _ = 0
 
 -- ---- the replies that go out in pieces
 
--- they tell the steps of `run`, and those that stand
+-- the command writes the steps of `run`, or those that are there
 abbrev pub TellsSteps : Command → Type 0
 TellsSteps (Run most) = ⊤
 TellsSteps (Show Hist) = ⊤
 TellsSteps _ = ⊥
 
--- what is asked for is told in pieces: the steps of `run`, those that stand, and those of `go`
--- where one worker takes them
+-- what is asked for is written in pieces: the steps of `run`, those that are there, and those of
+-- `go` where one worker takes them
 abbrev pub AreTold : Asked → Type 0
 AreTold (Asks command) = TellsSteps command
 AreTold (Go workers most) = workers ≡ 1
 AreTold _ = ⊥
 
--- the line asks for steps, and is told them in pieces
+-- the line asks for steps, and is written them in pieces
 abbrev pub AsksSteps : ℕ → List ℕ → Type 0
 AsksSteps limit line = AreTold (asked limit line)
 
--- what was written without a whole reply: a beginning of one, and for want of memory that only where steps are told in
--- pieces; where workers and journal don't fit, of which there are several then, nothing
+-- what was written without a whole reply: a beginning of one, and for want of memory that only
+-- where steps are written in pieces; where workers and journal don't fit, of which there are
+-- several then, nothing
 abbrev pub Fails : (AreSteps HasSeveral : Type 0) → (List ℕ → Session → Type 0) → Option (List ℕ) → Option (List ℕ) → Unanswered → Type 0
 Fails AreSteps HasSeveral IsReply before after Memory = Appends before after [] ⊎ (AreSteps × Begins IsReply before after)
 Fails AreSteps HasSeveral IsReply before after Write = Begins IsReply before after

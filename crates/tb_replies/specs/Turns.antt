@@ -1,4 +1,4 @@
--- What `go` tells: its workers claim tasks and commit their next steps, turn by turn.
+-- What `go` writes: its workers claim tasks and commit their next steps, turn by turn.
 use Rattle.std.specs.Prelude.{◌≡◌, ℕ, List, [], ◌∷◌, Some, None}
 use Rattle.tb_model.specs.Names.{Name}
 use Rattle.tb_live.specs.Session.{Session}

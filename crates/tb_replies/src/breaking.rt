@@ -37,7 +37,7 @@ fn body_line(program: &Program, name: &[u8]) -> Option<u32>
     None
 }
 
-/// Makes a breakpoint, and tells its number.
+/// Makes a breakpoint, and writes its number.
 pub fn break_reply(alloc: Global, live: &mut Live, at: Break) -> Result<Draft, AllocError>
     ensures { IfOk result (λ text. BreakReply (break_refusal live.old.session at)
         live.old.session at text live.new.session) }
@@ -52,7 +52,7 @@ pub fn break_reply(alloc: Global, live: &mut Live, at: Break) -> Result<Draft, A
     }
 }
 
-/// Makes a breakpoint at the starts of tasks of the body with this name, and tells its number.
+/// Makes a breakpoint at the starts of tasks of the body with this name, and writes its number.
 pub fn body_reply(alloc: Global, live: &mut Live, name: &[u8]) -> Result<Draft, AllocError>
     ensures { IfOk result (λ text. BodyReply (body_line name.now live.old.session.program)
         live.old.session text live.new.session) }
@@ -63,7 +63,7 @@ pub fn body_reply(alloc: Global, live: &mut Live, name: &[u8]) -> Result<Draft, 
     }
 }
 
-/// Takes a breakpoint away, and tells it.
+/// Takes a breakpoint away, and writes it.
 pub fn clear_reply(alloc: Global, live: &mut Live, number: u32) -> Result<Draft, AllocError>
     ensures { IfOk result (λ text. ClearReply (clear_refusal live.old.session number)
         live.old.session number text live.new.session) }

@@ -17,8 +17,8 @@ use tb_lines::Sink;
 use tb_live::{Live, Mode, PausedBy, StepRefusal};
 use tb_team::Stop;
 
-/// Takes the next step of the least task that can step, as the worker's claim and its commit would, and tells it. False
-/// where there is no such task, or the run is paused.
+/// Executes the next step of the least task that can step, as the worker's claim and its commit
+/// would, and writes it. False where there is no such task, or the run is paused.
 fn take_turn(text: &mut Draft, live: &mut Live) -> Result<bool, AllocError>
     requires free { HasNoClaims live.old.session }
     requires going { IsUnderWay live.old.session.control.mode }
@@ -40,8 +40,8 @@ fn take_turn(text: &mut Draft, live: &mut Live) -> Result<bool, AllocError>
     }
 }
 
-/// Why no turn follows in a run that goes on. No step is taken: no task can step, or the journal is
-/// full.
+/// Why no turn follows in a run that goes on. No step is executed: no task can step, or the journal
+/// is full.
 fn idle_stop(live: &mut Live) -> Result<Stop, AllocError>
     requires { IsIdle live.old.session }
     ensures { IfOk result (λ why. IsIdleStop live.old.session live.new.session why) }
@@ -82,7 +82,7 @@ fn settle(live: &mut Live, count: u32) -> Result<Taken, AllocError>
     Ok(Taken { count, stop })
 }
 
-/// Takes up to so many turns, and tells each as soon as it is taken.
+/// Executes up to so many turns, and writes each as soon as it is taken.
 fn take_turns<K: Sink>(
     sink: &mut K,
     text: &mut Draft,
@@ -112,8 +112,8 @@ fn take_turns<K: Sink>(
     Ok(settle(live, count)?)
 }
 
-/// Lets one worker go on for up to so many steps, and tells them. It stops at a breakpoint. What is
-/// handed out is the end of the reply, and still to be written.
+/// Lets one worker go on for up to so many steps, and writes them. It stops at a breakpoint. What
+/// is handed out is the end of the reply, and still to be written.
 pub fn go_reply<K: Sink>(
     alloc: Global,
     sink: &mut K,

@@ -43,8 +43,8 @@ fn tell_steps<K: Sink>(
     Ok(())
 }
 
-/// How many steps stand, and the line of each, which takes no memory of the history's length. What is
-/// handed out is the end of the reply, and still to be written.
+/// How many steps are there, and the line of each, which takes no memory of the history's length.
+/// What is handed out is the end of the reply, and still to be written.
 pub fn history_reply<K: Sink>(alloc: Global, sink: &mut K, live: &Live) -> Result<Draft, Unwritten>
     requires failures { K.failures sink.old < 2 ^ 64 - 1 }
     ensures told { IfOk result (λ text. Told (K.taken sink.old) (K.taken sink.new) text

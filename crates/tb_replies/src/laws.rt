@@ -25,8 +25,8 @@ pub fn one_reply()
         → Answers workers s line more other → (out ≡ more) × (new ≡ other) }
 {}
 
-/// A session begins with a sound journal, and no reply leaves another: each step that it tells is
-/// the task's next one, and each step that it takes back stood.
+/// A session begins with a sound journal, and no reply leaves another: each step that it writes is
+/// the task's next one, and each step that it takes back was there.
 #[tactic(auto, using(crate::proofs::TotalLemmas::answer_sound))]
 pub fn sound_journals()
     ensures opened { (text : List ℕ) (P : Program) (limit : ℕ) → IsProgram text P →
@@ -36,7 +36,7 @@ pub fn sound_journals()
 {}
 
 /// A step that is taken in a run that goes on pauses it for a breakpoint exactly where it meets one
-/// that stands; else the steps that were asked for are one fewer.
+/// that is there; else the steps that were asked for are one fewer.
 #[tactic(auto, using(crate::proofs::TurnLemmas::stops_where_met, crate::proofs::TurnLemmas::goes_on_unmet))]
 pub fn stops_at_breakpoints()
     ensures stops { (s : Session) (seat : ℕ) (t : Name) → IsFalse (is_paused s.control.mode) →

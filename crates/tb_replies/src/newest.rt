@@ -1,4 +1,4 @@
-//! The line of the step that was taken last.
+//! The line of the step that was executed last.
 
 ghost use Rattle.std.specs.Prelude.{◌≡◌, ◌++◌, OnOk};
 ghost use Rattle.tb_replies.specs.Texts.{newest_line};
@@ -9,7 +9,7 @@ use tb_live::Live;
 use tb_model::StepId;
 use tb_view::append_line;
 
-/// Appends the line of the newest step that stands, which this names.
+/// Appends the line of the newest step that is there, which this names.
 #[inline(always)]
 pub fn append_newest(text: &mut Draft, live: &Live, id: &StepId) -> Result<(), AllocError>
     ensures { OnOk result (text.new

@@ -63,7 +63,7 @@ fn undone(alloc: Global, id: &StepId) -> Result<Draft, AllocError>
     Ok(text)
 }
 
-/// The line of the newest event that stands, of which this is the step.
+/// The line of the newest event that is there, of which this is the step.
 fn newest_line(alloc: Global, live: &Live, id: &StepId) -> Result<Draft, AllocError>
     ensures { IfOk result (λ text. text ≡ newest_line live.now.session id.now) }
 {
@@ -105,7 +105,7 @@ fn undo_reply(alloc: Global, live: &mut Live, id: &StepId) -> Result<Draft, Allo
     }
 }
 
-/// Does what a command asks for, and tells it. What is handed out is the end of the reply.
+/// Does what a command asks for, and writes it. What is handed out is the end of the reply.
 fn reply<K: Sink>(
     alloc: Global,
     sink: &mut K,
@@ -133,7 +133,7 @@ fn reply<K: Sink>(
     }
 }
 
-/// Does what a command asks for, and tells it.
+/// Does what a command asks for, and writes it.
 fn command_told<K: Sink>(
     alloc: Global,
     sink: &mut K,
@@ -176,7 +176,7 @@ fn fault_told(
     }
 }
 
-/// Lets one worker go on for up to so many steps, and tells them.
+/// Lets one worker go on for up to so many steps, and writes them.
 fn alone_told<K: Sink>(
     alloc: Global,
     sink: &mut K,
@@ -201,7 +201,7 @@ fn alone_told<K: Sink>(
     }
 }
 
-/// Lets workers go on for up to so many steps, and tells them.
+/// Lets workers go on for up to so many steps, and writes them.
 fn go_told<R: Threads + Wait + Sync, K: Sink>(
     rt: &R,
     alloc: Global,
@@ -226,9 +226,9 @@ fn go_told<R: Threads + Wait + Sync, K: Sink>(
     Ok((live, text))
 }
 
-/// Does what a line asks for, and tells it, where `go` may name so many workers. A long reply is
-/// written as it comes; what is handed out is the end of the reply, and still to be written. An `Err`
-/// may come when it is done and can't be told.
+/// Does what a line asks for, and writes it, where `go` may name so many workers. A long reply is
+/// written as it comes; what is handed out is the end of the reply, and still to be written. An
+/// `Err` may come when it is done and can't be written.
 pub fn answer<R: Threads + Wait + Sync, K: Sink>(
     rt: &R,
     alloc: Global,

@@ -1,4 +1,4 @@
-//! Takes a step back with all that need it, and tells them.
+//! Takes a step back with all that need it, and writes them.
 
 ghost use Rattle.std.specs.Prelude.{◌≡◌, ◌++◌, IfOk, OnOk};
 ghost use Rattle.tb_replies.specs.Refusals.{roll_refusal};
@@ -61,7 +61,7 @@ fn roll_found(alloc: Global, live: &mut Live, found: Option<StepId>) -> Result<D
     }
 }
 
-/// Takes the step back that the target names, with all that need it, and tells them.
+/// Takes the step back that the target names, with all that need it, and writes them.
 pub fn roll_reply(alloc: Global, live: &mut Live, target: &Target) -> Result<Draft, AllocError>
     ensures { IfOk result (λ text. RollReply live.old.session
         (step_named (history live.old.session) target.now) text live.new.session) }

@@ -17,14 +17,14 @@ use tb_lines::Sink;
 use tb_live::{Live, StepRefusal};
 use tb_team::Stop;
 
-/// How many steps were taken, and why no more.
+/// How many steps were executed, and why no more.
 #[derive(Clone, Copy, Debug, PartialEq, Eq)]
 pub struct Taken {
     pub count: u32,
     pub stop: Stop,
 }
 
-/// Takes the steps, each after a resume, and tells each as soon as it is taken.
+/// Executes the steps, each after a resume, and writes each as soon as it is taken.
 fn take_steps<K: Sink>(
     sink: &mut K,
     text: &mut Draft,
@@ -79,8 +79,8 @@ pub fn append_end(text: &mut Draft, taken: Taken) -> Result<(), AllocError>
     text.push('\n')
 }
 
-/// Lets the run go on, takes up to so many steps, and tells them. Breakpoints don't stop it. What is
-/// handed out is the end of the reply, and still to be written.
+/// Lets the run go on, executes up to so many steps, and writes them. Breakpoints don't stop it.
+/// What is handed out is the end of the reply, and still to be written.
 pub fn run_reply<K: Sink>(
     alloc: Global,
     sink: &mut K,

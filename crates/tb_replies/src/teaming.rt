@@ -30,7 +30,7 @@ fn course_text(alloc: Global, live: &Live, count: u32, stop: Stop) -> Result<Dra
     Ok(text)
 }
 
-/// Lets several workers go on for up to so many steps, and tells them. They stop at a breakpoint.
+/// Lets several workers go on for up to so many steps, and writes them. They stop at a breakpoint.
 fn reply_off_heap<R: Threads + Wait + Sync>(
     rt: &R,
     alloc: Global,

@@ -1,4 +1,4 @@
--- Steps that are in two histories, by their places.
+-- Steps that are in two histories, by their indexes.
 use Rattle.std.proofs.Common.{◌≡◌, ◌<◌, ◌≤◌, ◌+◌, ℕ, zero, suc, List, [], ◌∷◌, ◌++◌, Bool, true, false, length, take, drop, refl, sym, ap, ◌∙◌, subst, arith, Some, get_or, slice_get, append_assoc, append-nil}
 use Rattle.std.specs.Option.{option_map}
 use Rattle.std.proofs.lemmas.List.{length-append, take-append-drop, take_all}
@@ -39,7 +39,7 @@ one_pushed P [] x all last (suc p) q h = cc
 one_pushed P (y ∷ xs) x all last zero q h = all zero q h
 one_pushed P (y ∷ xs) x all last (suc p) q h = one_pushed (λ p q. P (suc p) q) xs x (λ p q h. all (suc p) q h) last p q h
 
--- ---- the actions of a task, cut at a place
+-- ---- the actions of a task, cut at an index
 
 own_append : (t : Name) (G H : History) → own t (G ++ H) ≡ own t G ++ own t H
 own_append t [] H = refl
@@ -64,7 +64,7 @@ module _ (t : Name) (entries : List Entry) (at : ℕ) (e : Entry) (within : at <
   pub own_here : is_of t e.event ≡ true → own t (history_of entries) ≡ own t (history_of (drop (at + 1) entries)) ++ e.event.action ∷ own t (history_of (take at entries))
   own_here mine = own_cut t entries (at + 1) ∙ ap (λ l. own t (history_of (drop (at + 1) entries)) ++ l) (own_more mine)
 
--- ---- a step and where it stands among the others
+-- ---- a step and where it is among the others
 
 action_read : (entries : List Entry) (at : ℕ) (e : Entry) → at < length entries → e ≡ get_or entries at e → action_at entries at ≡ Some e.event.action
 action_read entries at e within here = ap (option_map (λ (x : Entry). x.event.action)) (slice_get_read entries (length entries) at e refl within here)
@@ -129,7 +129,7 @@ module _ (entries others : List Entry) (places : List ℕ) (count : length place
   pub all_oldest : AreOldest (own t (history_of entries)) all
   all_oldest = subst (λ l. AreOldest (own t (history_of l)) all) (take_all (length entries) entries (omega arith)) (upto (length entries) (omega arith))
 
--- ---- the step at a place, where the steps of its task in front of it are matched
+-- ---- the step at an index, where the steps of its task in front of it are matched
 
 module _ (entries others : List Entry) (at begin : ℕ) (e : Entry) (t : Name) (within : at < length entries) (here : e ≡ get_or entries at e) (named : t ≡ e.event.task) (counted : length (own t (history_of (take begin others))) ≡ length (own t (history_of (take at entries)))) where
   abbrev front : List Action
@@ -186,7 +186,7 @@ next_found entries at begin t e within here mine same =
     step_read entries at e within here ∙ ap (λ u. Some (record { task = u; k = suc (length (own u (history_of (take at entries)))) })) task
     ∙ ap (λ (acts : List Action). Some (record { task = t; k = suc (length acts) })) same
 
--- the last of the task in front of a place, and where it stands among the others
+-- the last of the task in front of an index, and where it is among the others
 module _ (entries others : List Entry) (places : List ℕ) (at left : ℕ) (t : Name) (e : Entry) (matched : AreMatched entries places others) (within : left < length entries) (here : e ≡ get_or entries left e) (known : left < length places) (mine : is_of t e.event ≡ true) (same : own t (history_of (take (left + 1) entries)) ≡ own t (history_of (take at entries))) where
   abbrev q : ℕ
   q = get_or places left 0

@@ -1,4 +1,4 @@
--- The order of steps, by their places.
+-- The order of steps, by their indexes.
 use Rattle.std.proofs.Common.{◌↔◌, IsTrue, IfOk, Result, Ok, Err, ◌≡◌, ◌<◌, ◌≤◌, ◌+◌, ℕ, suc, List, [], ◌∷◌, ◌++◌, Bool, true, false, ◌&&◌, ◌||◌, not, length, take, drop, refl, sym, ap, ◌∙◌, subst, arith, Some, get_or, slice_get, ⊎_elim, eqb-true}
 use Rattle.std.proofs.lemmas.Bool.{or_cases, or_left, or_right, and_parts, and_from, and_right, false≢true, false_from_ne_true}
 use Rattle.std.proofs.lemmas.List.{get_or-take, length-take, take-take, take-append-drop}
@@ -19,7 +19,7 @@ use Rattle.tb_steps.proofs.ScanLemmas.{history_of-append, history_cut, history_m
 use Rattle.tb_roll.specs.Comparing.{AreMatched, IsFoundIn}
 use Rattle.tb_roll.proofs.MatchingLemmas.{all_oldest, both_oldest}
 
--- ---- steps that stand
+-- ---- steps that are there
 
 step_bound : (i : StepId) (H : History) (v : Event) → is_step i H v ≡ true → i.k ≤ length (own i.task (v ∷ H))
 step_bound i H v h =
@@ -51,7 +51,7 @@ first_stands j i [] h = absurd (false≢true h)
 first_stands j i (v ∷ H) h =
     or_right (is_step j H v) _ (⊎_elim (λ a. (and_parts (is_step i H v) (stands j H) a).1) (λ b. first_stands j i H b) (or_cases (is_step i H v && stands j H) _ h))
 
--- what comes first stands in front
+-- what comes first is in front
 in_front : (j : StepId) (later : History) (w : Event) (F : History) → comes_first j (step_of F w) (later ++ w ∷ F) ≡ true → stands j F ≡ true
 in_front j [] w F h =
     ⊎_elim (λ a. (and_parts (is_step (step_of F w) F w) (stands j F) a).1) (λ b. first_stands j (step_of F w) F b) (or_cases (is_step (step_of F w) F w && stands j F) _ h)
@@ -63,7 +63,7 @@ in_front j (v ∷ later) w F h =
     (λ b. in_front j later w F b)
     (or_cases (is_step i H v && stands j H) _ h)
 
--- ---- by places
+-- ---- by indexes
 
 own_longer : (t : Name) (later front : History) → length (own t front) ≤ length (own t (later ++ front))
 own_longer t [] front = omega arith
@@ -141,7 +141,7 @@ and_left_false : (a b : Bool) → a ≡ false → (a && b) ≡ false
 and_left_false true b h = absurd (false≢true (sym h))
 and_left_false false b h = refl
 
--- one entry more, which stands in front of the one that is asked
+-- one stored step more, which is before the one that is asked
 module _ (entries others : List Entry) (places : List ℕ) (matched : AreMatched entries places others) (later earlier p q : ℕ) (v : Event) (i : StepId) (e : Entry) (behind : earlier < later) (within : later < length entries) (here : e ≡ get_or entries earlier e) (its : slice_get places later ≡ Some p) (of_it : slice_get places earlier ≡ Some q) (step : step_at entries later ≡ Some i) where
   abbrev H : History
   H = history_of others
@@ -181,7 +181,7 @@ module _ (entries others : List Entry) (places : List ℕ) (matched : AreMatched
       ap (all_first H i front v) cut_front
       ∙ first_fails H i front v rest (e.event ∷ K) (and_left_false (not (needs front v e.event) || comes_first j i H) _ (fails_or (needs front v e.event) (comes_first j i H) n late))
 
--- one entry more of all
+-- one stored step more of all
 module _ (entries others : List Entry) (later : ℕ) (e : Entry) (within : later < length entries) (here : e ≡ get_or entries later e) where
   abbrev G : History
   G = history_of (take later entries)

@@ -1,4 +1,4 @@
--- A rollback is ready once all memory for it is taken, and tells the chosen step first.
+-- A rollback is prepared once all memory for it is taken, and returns the chosen step first.
 use Rattle.std.proofs.Common.{◌≡◌, ◌≤◌, ◌+◌, ◌-◌, ℕ, List, [], ◌∷◌, ◌++◌, Bool, true, false, IsTrue, length, map, reverse, refl, sym, ap, ◌∙◌, arith}
 use Rattle.std.specs.List.{All}
 use Rattle.std.proofs.lemmas.List.{length-map, length-reverse, reverse-append, map-append}

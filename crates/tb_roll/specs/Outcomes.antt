@@ -8,7 +8,7 @@ use Rattle.tb_core.specs.Seen.{Seen, history}
 use Rattle.tb_roll.specs.declared.roll_refusal.RollRefusal.{RollRefusal}
 use Rattle.tb_roll.specs.declared.roll_refusal.RollRefusal.TheVariants.{Memory, NoSuchStep, Full}
 
--- the step stood, and it is told first
+-- the step was there, and it is returned first
 pub record TellsFirst (s : Seen) (e : StepId) (answer : List Removed) : Type 0 where
   pub stood : IsTrue (stands e (history s))
   pub action : Action

@@ -1,4 +1,4 @@
--- The refusals by their numbers.
+-- The refusals by their codes.
 use Rattle.std.specs.Prelude.{ℕ}
 use Rattle.tb_roll.specs.declared.roll_refusal.RollRefusal.{RollRefusal}
 use Rattle.tb_roll.specs.declared.roll_refusal.RollRefusal.TheVariants.{Memory, NoSuchStep, Full}

@@ -27,7 +27,7 @@ pub fn same_run(alloc: Global, one: &Core, other: &Core) -> Result<bool, AllocEr
     is_found_in(alloc, &others, &entries)
 }
 
-/// Whether each step stands among the others with its action, and each direct need in its order.
+/// Whether each step is among the others with its action, and each direct need in its order.
 fn is_found_in(
     alloc: Global,
     entries: &History<'_>,
@@ -43,7 +43,7 @@ fn is_found_in(
     }
 }
 
-/// Whether each entry stands behind those that it directly needs, also by these places.
+/// Whether each stored step is after those that it directly needs, also by these indexes.
 fn is_in_order(entries: &History<'_>, places: &[u32]) -> bool
     requires count { length places.now ≡ length entries.now }
     ensures { (others : List Entry) → AreMatched entries.now places.now others →
@@ -57,7 +57,7 @@ fn is_in_order(entries: &History<'_>, places: &[u32]) -> bool
     true
 }
 
-/// Whether the step at this place comes behind those that it directly needs.
+/// Whether the step at this index comes after those that it directly needs.
 fn comes_behind(entries: &History<'_>, places: &[u32], later: usize) -> bool
     requires count { length places.now ≡ length entries.now }
     requires within { later < length entries.now }
@@ -69,7 +69,7 @@ fn comes_behind(entries: &History<'_>, places: &[u32], later: usize) -> bool
 {
     let place = places[later];
     for earlier in 0..later {
-        // Comparing the places is cheap.
+        // Comparing the indexes is cheap.
         if place <= places[earlier] && needs(entries, later, earlier) {
             return false;
         }

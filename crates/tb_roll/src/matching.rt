@@ -1,5 +1,5 @@
-//! Where the steps of one history stand in another. The kth step of a task there is looked for
-//! behind its step before, so a task's steps cost one pass over both histories at most.
+//! Where the steps of one history are in another. The kth step of a task there is looked for after
+//! its step before, so a task's steps cost one pass over both histories at most.
 
 ghost use Rattle.std.specs.Prelude.{◌≡◌, ◌≤◌, ◌<◌, IfOk, IfSome, IfNone, List, Some, length, take};
 ghost use Rattle.tb_model.specs.Facts.{own};
@@ -13,7 +13,7 @@ use std::alloc::{AllocError, Global};
 use tb_core::History;
 use tb_model::TaskName;
 
-/// The places of the steps among the others, where each stands there with the same action.
+/// The indexes of the steps among the others, where each is there with the same action.
 pub fn places_in(
     alloc: Global,
     entries: &History<'_>,
@@ -36,8 +36,8 @@ pub fn places_in(
     Ok(Some(places))
 }
 
-/// The place among the others of the step at this place, where it stands there with the same
-/// action. The places of those in front of it are known.
+/// The index among the others of the step at this index, where it is there with the same action.
+/// The indexes of those in front of it are known.
 fn place_in(entries: &History<'_>, at: usize, others: &History<'_>, places: &[u32]) -> Option<usize>
     requires within { at < length entries.now }
     requires count { length places.now ≡ at }
@@ -57,7 +57,7 @@ fn place_in(entries: &History<'_>, at: usize, others: &History<'_>, places: &[u3
     }
 }
 
-/// The place among the others behind the last step of the task in front of this place.
+/// The index among the others after the last step of the task in front of this index.
 fn behind_last(entries: &History<'_>, at: usize, places: &[u32], task: &TaskName) -> usize
     requires within { at < length entries.now }
     requires count { length places.now ≡ at }
@@ -77,7 +77,7 @@ fn behind_last(entries: &History<'_>, at: usize, places: &[u32], task: &TaskName
     0
 }
 
-/// The place of the first step of the task from `begin` on.
+/// The index of the first step of the task from `begin` on.
 fn next_of(entries: &History<'_>, begin: usize, task: &TaskName) -> Option<usize>
     requires within { begin ≤ length entries.now }
     ensures step { IfSome result (λ place.

@@ -5,8 +5,8 @@ ghost use Rattle.std.specs.Prelude.{◌≡◌};
 use tb_core::Rollback;
 use tb_model::StepId;
 
-/// A step with all that need it, and the room in which they are taken back, which is always there.
-/// It is of one history: once that has changed it serves no more.
+/// A step with all that need it, and the capacity in which they are taken back, which is always
+/// there. It is of one history: once that has changed it serves no more.
 #[derive(Drop)]
 pub struct Ready {
     pub rollback: Rollback,
@@ -28,8 +28,9 @@ impl Ready {
     }
 }
 
-/// The patterns name every field: what is ready holds no program, and no copy of an earlier state.
-/// They are compiled with the crate, so that a further field is refused until it stands here.
+/// The patterns name every field: what is prepared holds no program, and no copy of an earlier
+/// state. They are compiled with the crate, so that a further field is refused until it is named
+/// here.
 fn name_every_field(ready: &Ready) {
     let Ready { rollback } = ready;
     let Rollback {

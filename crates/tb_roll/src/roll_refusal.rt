@@ -10,12 +10,12 @@ pub enum RollRefusal {
     Memory,
     /// The step isn't in the history.
     NoSuchStep,
-    /// The journal has no place for the rollback. Only who keeps a journal answers this.
+    /// The journal has no slot for the rollback. Only who has a journal answers this.
     Full,
 }
 
 impl RollRefusal {
-    /// The number by which replies name the refusal.
+    /// The code by which replies name the refusal.
     pub fn number(&self) -> u8
         ensures { result ≡ roll_number self.now }
     {

@@ -40,7 +40,7 @@ pub fn finish(core: &mut Core, ready: Ready) -> Vec<Removed>
     core.take_out_all(ready.rollback)
 }
 
-/// Takes a step back with all that need it, and tells them in the order of the history.
+/// Takes a step back with all that need it, and returns them in the order of the history.
 pub fn roll(alloc: Global, core: &mut Core, step: &StepId) -> Result<Vec<Removed>, RollRefusal>
     ensures rolled { IfOk result (λ answer.
         RollsBack core.old.run step.now core.new.run answer.items) }
@@ -54,7 +54,7 @@ pub fn roll(alloc: Global, core: &mut Core, step: &StepId) -> Result<Vec<Removed
     }
 }
 
-/// The step at this place with all that need it, and the room to take them back.
+/// The step at this index with all that need it, and the capacity to take them back.
 fn prepare(
     alloc: Global,
     core: &Core,

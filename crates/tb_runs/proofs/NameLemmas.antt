@@ -9,12 +9,12 @@ use Rattle.tb_model.specs.Spelling.{parts, onto_first, is_dot, is_hash, before_h
 use Rattle.tb_runs.specs.Memory.{is_long}
 use Rattle.tb_runs.specs.Names.{ordinal_of, last_child, last_step, descendant, task_of, id_of, next_of, numbered_of}
 
--- the parts behind the first, where this comes behind it
+-- the parts after the first, where this comes after it
 abbrev pub rest_parts : List ℕ → List (List ℕ)
 rest_parts [] = []
 rest_parts (b ∷ bytes) = parts bytes
 
--- what is left of a word behind t: nothing, or a dot and levels
+-- what is left of a word after t: nothing, or a dot and levels
 abbrev pub led_by : Name → List ℕ → Option Name
 led_by t [] = Some t
 led_by t (b ∷ bytes) = cond (b == 46) (descendant t (parts bytes)) None
@@ -44,7 +44,7 @@ first_level : (t : Name) (bytes : List ℕ) (at : ℕ) → at ≡ position_or_le
     led_by t (46 ∷ bytes) ≡ descendant t (take at bytes ∷ rest_parts (drop at bytes))
 first_level t bytes at e = rw e (ap (descendant t) (parts_front bytes))
 
--- a dot, and the number of a child behind it
+-- a dot, and the ordinal of a child after it
 pub level_led : (t : Name) (left digits : List ℕ) (at n : ℕ) (all : Option Name) → 0 < length left → get_or left 0 0 ≡ 46 → digits ≡ drop 1 left →
     at ≡ position_or_len is_dot digits → ordinal_of last_child (take at digits) ≡ Some n → led_by t left ≡ all → led_by (child t n) (drop at digits) ≡ all
 level_led t [] digits at n all some dot d e o h = absurd (omega (arith, some))
@@ -55,7 +55,7 @@ level_led t (b ∷ bytes) digits at n all some dot d e o h =
     let begins : led_by t (b ∷ bytes) ≡ led_by t (46 ∷ digits) = rw (dot, d) refl in
     here ∙ sym first ∙ sym (first_level t digits at e) ∙ sym begins ∙ h
 
--- a dot, and no number of a child behind it
+-- a dot, and no ordinal of a child after it
 pub level_lost : (t : Name) (left digits : List ℕ) (at : ℕ) (all : Option Name) → 0 < length left → get_or left 0 0 ≡ 46 → digits ≡ drop 1 left →
     at ≡ position_or_len is_dot digits → ordinal_of last_child (take at digits) ≡ None → led_by t left ≡ all → None ≡ all
 level_lost t [] digits at all some dot d e o h = absurd (omega (arith, some))
@@ -134,7 +134,7 @@ one_dot (b ∷ bytes) some dot =
     let one : tick b ≡ 1 = ap tick dot in
     omega (arith, one, with_first b bytes)
 
--- three levels, and a dot behind them
+-- three levels, and a dot after them
 pub long_name : (n : ℕ) (left word : List ℕ) → 3 ≤ n → 0 < length left → get_or left 0 0 ≡ 46 → n + count_by is_dot left ≤ count_by is_dot word → is_long word ≡ true
 long_name n left word deep some dot h =
     let more : 3 < count_by is_dot word = omega (arith, one_dot left some dot) in

@@ -90,7 +90,7 @@ split_by : (hash : Bool) (b n : ℕ) (bytes : List ℕ) → is_hash b ≡ hash �
 split_by true b n bytes e more less = ap (λ c. c ∷ bytes) (eqb-true b 35 e)
 split_by false b n bytes e more less = rw one_more (ap (λ l. b ∷ l) (more (omega (arith, less))))
 
--- the bytes in front of the first `#`, and those behind it
+-- the bytes in front of the first `#`, and those after it
 pub split_at : (bytes : List ℕ) → position_or_len is_hash bytes < length bytes →
     bytes ≡ take (position_or_len is_hash bytes) bytes ++ 35 ∷ drop (suc (position_or_len is_hash bytes)) bytes
 split_at [] h = absurd (omega arith)

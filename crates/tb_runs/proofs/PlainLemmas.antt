@@ -1,4 +1,4 @@
--- Words that are read as they stand in a line: where they end, and what they say.
+-- Words that are read as they are in a line: where they end, and what they say.
 use Rattle.std.proofs.Common.{◌≡◌, ◌⊎◌, inl, inr, ℕ, suc, ◌+◌, ◌*◌, ◌<◌, ◌≤◌, ◌^◌, ◌==◌, ◌&&◌, not, nat_lt, nat_le, Bool, true, false, cond, List, [], ◌∷◌, ◌++◌, take, drop, length, codes, refl, sym, ap, ◌∙◌, subst, arith, append_assoc, length-append, drop_of_length-le, eqb-true, Option, Some, None, Ok, ℤ}
 use Rattle.std.proofs.lemmas.Bool.{and_from, and_parts, false≢true}
 use Rattle.std.proofs.lemmas.Bool.Decides.{nat_tests}

@@ -32,7 +32,7 @@ verb_of word =
     else (if same_word word (codes "end") then Some verb.End
     else rare_verb_of word)))))
 
--- ---- the words behind it
+-- ---- the words after it
 
 abbrev pub let_in : List Word → Reading Action
 let_in words = and_then (register_in words) (λ r words. and_then (number_in words) (λ x words. Ok (Let r x, words)))
@@ -50,7 +50,7 @@ print_in words = and_then (number_in words) (λ x words. Ok (Print x, words))
 abbrev pub wait_in : ℕ → List Word → Reading Action
 wait_in cells words = and_then (items_in true cells 64 words) (λ items words. Ok (Wait items, words))
 
--- a run has no bodies, so none is kept; `undeferred` may stand last
+-- a run has no bodies, so none is stored; `undeferred` may be last
 abbrev pub spawn_of : Name → List ℤ → List Item → List Word → Reading Action
 spawn_of child args items words =
     let undeferred = begins (codes "undeferred") words in

@@ -12,7 +12,7 @@ use Rattle.tb_runs.specs.declared.said.Said.TheVariants.{Cells, Cell, Hist, Even
 use Rattle.tb_runs.specs.declared.said.Stage.{Stage}
 use Rattle.tb_runs.specs.declared.said.Stage.TheVariants as stage
 
--- the cells that were given a first number, the first of them first
+-- the cells that were given a first value, the first of them first
 abbrev pub Firsts : Type 0
 Firsts = List (ℕ × ℤ)
 
@@ -36,7 +36,7 @@ cells_said words = and_then (count_in words) (λ n words. Ok (Cells n, words))
 abbrev pub begun_in : List Word → Reading Said
 begun_in words = if begins (codes "cells") words then cells_said (drop 1 words) else Err NoCells
 
--- a cell that has no first number yet
+-- a cell that has no first value yet
 abbrev pub fresh_by : Firsts → ℕ → List Word → Reading ℕ
 fresh_by firsts c words = if is_some (lookup (nat_eq c) firsts) then Err Duplicate else Ok (c, words)
 
@@ -60,7 +60,7 @@ event_said cells words =
     and_then (id_in words) (λ id words. and_then (action_in cells words) (λ action words.
     Ok (AnEvent id.step (record { task = id.task; action = action }), words)))
 
--- a first number of a cell, `hist`, or the first event
+-- a first value of a cell, `hist`, or the first event
 abbrev pub headed_in : Firsts → ℕ → List Word → Reading Said
 headed_in firsts cells words =
     if begins (codes "cell") words then cell_said firsts cells (drop 1 words)
@@ -94,7 +94,7 @@ line_said firsts at line =
     else (if not (is_text (before_comment line)) then Err NotText
     else said_by firsts at (line_words line))
 
--- the number of cells, once a line told it
+-- the count of cells, once a line gave it
 abbrev pub cells_at : Stage → ℕ
 cells_at stage.Begin = 0
 cells_at (stage.Cells count) = count

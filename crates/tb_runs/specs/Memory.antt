@@ -1,4 +1,5 @@
--- For what lines memory may be wanted: their event's task has a name of more than three numbers, or it spawns or waits.
+-- For what lines memory may be wanted: their event's task has a name of more than three ordinals,
+-- or it spawns or waits.
 use Rattle.std.specs.Prelude.{ℕ, Bool, true, false, not, ◌&&◌, ◌||◌, nat_lt, codes, count_by, List, [], ◌∷◌, length, Option, Some, None}
 use Rattle.tb_model.specs.Spelling.{is_dot}
 use Rattle.tb_read.specs.Text.{line_words, before_comment, is_text}
@@ -11,7 +12,7 @@ use Rattle.tb_runs.specs.declared.said.Stage.TheVariants as stage
 use Rattle.tb_runs.specs.declared.verb.Verb.{Verb}
 use Rattle.tb_runs.specs.declared.verb.Verb.TheVariants.{Spawn, Wait}
 
--- the word has more than three dots, so a name in it may have more than three numbers
+-- the word has more than three dots, so a name in it may have more than three ordinals
 abbrev pub is_long : Word → Bool
 is_long word = nat_lt 3 (count_by is_dot word)
 

@@ -1,4 +1,4 @@
--- Words that are read as they stand in a line: their ends aren't looked for first.
+-- Words that are read as they are in a line: their ends aren't looked for first.
 use Rattle.std.specs.Prelude.{ℕ, ◌+◌, ◌*◌, ◌==◌, ◌&&◌, not, Bool, false, List, [], ◌∷◌, Option, Some, None, if◌then◌else◌}
 use Rattle.std.specs.Char.{is_ascii_digit, digit_value}
 

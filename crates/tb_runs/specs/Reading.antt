@@ -1,4 +1,5 @@
--- The words of a line, taken from the left: each at its place says something, or is the line's fault.
+-- The words of a line, taken from the left: each at its index says something, or is the line's
+-- fault.
 use Rattle.std.specs.Prelude.{ℕ, zero, suc, ℤ, Bool, true, false, not, ◌||◌, nat_lt, codes, List, [], ◌∷◌, drop, Option, Some, None, Result, Ok, Err, if◌then◌else◌}
 use Rattle.tb_model.specs.declared.item.Item.{Item}
 use Rattle.tb_model.specs.declared.place.Place.{Place}
@@ -108,7 +109,7 @@ all_place kind words = if allows_all kind then Ok (All, words) else Err DependTy
 abbrev pub place_in : ℕ → Kind → List Word → Reading Place
 place_in cells kind words = if begins (codes "all") words then all_place kind (drop 1 words) else cell_place cells words
 
--- behind `depend`: a type, and a cell or all memory
+-- after `depend`: a type, and a cell or all memory
 abbrev pub item_in : Bool → ℕ → List Word → Reading Item
 item_in on_wait cells words =
     and_then (type_in on_wait words) (λ kind words. and_then (place_in cells kind words) (λ place words. Ok (record { kind = kind; place = place }, words)))

@@ -107,7 +107,7 @@ fn take_wait(alloc: Global, words: &mut Words<'_>, cells: u32) -> Result<Action,
     Ok(Action::Wait { items })
 }
 
-/// The child, with a body that isn't kept, since a run has none.
+/// The child, with a body that isn't stored, since a run has none.
 // out of line: other actions don't pay for its stack frame
 #[inline(never)]
 fn take_spawn(alloc: Global, words: &mut Words<'_>, cells: u32) -> Result<Action, Unread>

@@ -12,13 +12,13 @@ pub enum Fault {
     /// The first line with words doesn't begin with `cells`, or no line has words.
     #[error("NoCells")]
     NoCells,
-    /// A word is no number, or a number of cells or of steps is below 0.
+    /// A word is no number, or a count of cells or of steps is below 0.
     #[error("BadNumber")]
     BadNumber,
     /// A number is no cell.
     #[error("CellRange")]
     CellRange,
-    /// A word is none of those that can stand there.
+    /// A word is none of those that can be there.
     #[error("UnknownWord")]
     UnknownWord,
     /// A word names no task, or no step.
@@ -27,7 +27,7 @@ pub enum Fault {
     /// A word is missing, or there is one too many.
     #[error("Arity")]
     Arity,
-    /// A cell was given its first number by an earlier line.
+    /// A cell was given its first value by an earlier line.
     #[error("Duplicate")]
     Duplicate,
     /// A word is no register.

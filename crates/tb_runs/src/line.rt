@@ -24,7 +24,7 @@ const LONGEST: usize = 65_535;
 /// The most cells.
 const MOST_CELLS: i64 = 134_217_728;
 
-/// A number of cells.
+/// A count of cells.
 fn take_count(words: &mut Words<'_>) -> Result<u32, Fault>
     ensures ok { IfOk result (λ n. count_in words.old ≡ Ok (n, words.new)) }
     ensures err { IfErr result (λ fault. count_in words.old ≡ Err fault) }
@@ -51,7 +51,7 @@ fn take_begun(words: &mut Words<'_>) -> Result<Said, Fault>
     Ok(Said::Cells { count })
 }
 
-/// A cell that has no first number yet.
+/// A cell that has no first value yet.
 fn take_fresh(words: &mut Words<'_>, firsts: &IndexMap<u32, i64>, cells: u32) -> Result<u32, Fault>
     ensures ok { IfOk result (λ c. fresh_in firsts.now.entries cells words.old ≡ Ok (c, words.new)) }
     ensures err { IfErr result (λ fault. fresh_in firsts.now.entries cells words.old ≡ Err fault) }
@@ -174,7 +174,7 @@ fn is_long(line: &[u8]) -> bool
     LONGEST < line.len()
 }
 
-/// What a line says, by the first numbers and the stage in front of it, and `None` where it has no
+/// What a line says, by the first values and the stage in front of it, and `None` where it has no
 /// words.
 pub fn read_line(
     alloc: Global,
@@ -199,8 +199,8 @@ pub fn read_line(
     Ok(Some(take_all(alloc, &mut words, firsts, stage)?))
 }
 
-/// What a line says after the first event, where there are so many cells. It needs no first
-/// numbers. A line that says an event is text, so whether it is is only asked of the others.
+/// What a line says after the first event, where there are so many cells. It needs no first values.
+/// A line that says an event is text, so whether it is, is only asked of the others.
 #[tactic(auto, using(crate::proofs::SaidLemmas::event_read))]
 pub fn read_event(alloc: Global, cells: u32, line: &[u8]) -> Result<Option<Said>, Unread>
     ensures ok { IfOk result (λ said. line_said [] (Events cells) line.now ≡ Ok said) }

@@ -11,17 +11,17 @@ use std::alloc::{AllocError, Global};
 use tb_model::{NameRefusal, TaskName};
 use tb_read::word::magnitude;
 
-/// The greatest number of a child.
+/// The greatest ordinal of a child.
 const LAST_CHILD: u64 = 4_294_967_295;
 
 /// The most bytes of a word that is read level by level. The time for a longer one would go by the
 /// square of its levels.
 const SHORT: usize = 64;
 
-/// The greatest number of a step.
+/// The greatest ordinal of a step.
 pub const LAST_STEP: u64 = 9_999_999_999;
 
-/// A step of a task: its next one, or the one with this number.
+/// A step of a task: its next one, or the one with this ordinal.
 #[derive(Debug, Drop)]
 pub struct Id {
     pub task: TaskName,
@@ -44,7 +44,7 @@ fn ordinal(digits: &[u8], most: u64) -> Option<u64>
     }
 }
 
-/// The number of a child that the digits spell.
+/// The ordinal of a child that the digits spell.
 fn child_number(digits: &[u8]) -> Option<u32>
     ensures number { result ≡ ordinal_of last_child digits.now }
     ensures from_one { IfSome result (λ n. 0 < n) }
@@ -89,7 +89,7 @@ fn read_levels(alloc: Global, word: &[u8]) -> Result<Option<TaskName>, AllocErro
     Ok(Some(name))
 }
 
-/// The task that the word names. Memory is wanted at most for a name of more than three numbers.
+/// The task that the word names. Memory is wanted at most for a name of more than three ordinals.
 pub fn read_task(alloc: Global, word: &[u8]) -> Result<Option<TaskName>, AllocError>
     ensures ok { IfOk result (λ task. task ≡ task_of word.now) }
     ensures memory { OnErr result (IsTrue (is_long word.now)) }
@@ -113,7 +113,7 @@ pub fn hash_at(word: &[u8]) -> usize
     word.iter().take_while(|b| **b != b'#').count()
 }
 
-/// The step with this number that the word names, where a `#` is at this place.
+/// The step with this ordinal that the word names, where a `#` is at this index.
 fn numbered(alloc: Global, word: &[u8], at: usize) -> Result<Option<Id>, AllocError>
     requires at { at ≡ position_or_len is_hash word.now }
     requires within { at < length word.now }

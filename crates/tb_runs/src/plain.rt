@@ -108,7 +108,7 @@ fn plain_task(alloc: Global, bytes: &[u8]) -> Option<TaskName>
     }
 }
 
-/// A task and the number of its step.
+/// A task and the ordinal of its step.
 #[inline(always)]
 pub fn plain_id(alloc: Global, bytes: &[u8]) -> Option<(Id, &[u8])>
     ensures { IfSome result

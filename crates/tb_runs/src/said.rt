@@ -9,18 +9,18 @@ pub enum Said {
     Cells { count: u32 },
     /// The cell has this number first.
     Cell { cell: u32, value: i64 },
-    /// The events come next; their count, which stands there, isn't kept.
+    /// The events come next; their count, which is there, isn't stored.
     Hist,
-    /// A task takes its next step, or that with this number.
+    /// A task executes its next step, or that with this number.
     Event { step: Option<u64>, event: Event },
 }
 
-/// Which lines came before, as far as it tells what a line may be.
+/// Which lines came before, as far as it says what a line may be.
 #[derive(Clone, Copy, Debug, Drop, PartialEq, Eq)]
 pub enum Stage {
     /// None with words.
     Begin,
-    /// The number of cells, and first numbers of cells.
+    /// The count of cells, and first values of cells.
     Cells { count: u32 },
     /// These, and `hist` or an event.
     Events { count: u32 },

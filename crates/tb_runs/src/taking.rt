@@ -1,4 +1,4 @@
-//! Takes the words of a line from the left, each at its place.
+//! Takes the words of a line from the left, each at its index.
 
 ghost use Rattle.std.specs.Prelude.{◌≡◌, ◌<◌, ◌∷◌, [], List, IfErr, IfOk, Err, IsTrue, Ok, drop, if◌then◌else◌};
 ghost use Rattle.tb_read.specs.Word.{Word};
@@ -29,7 +29,7 @@ pub fn take_word<'a>(words: &mut Words<'a>) -> Result<&'a [u8], Fault>
     }
 }
 
-/// That no word is left.
+/// Checks that no word is left.
 #[inline(always)]
 pub fn take_end(words: &mut Words<'_>) -> Result<(), Fault>
     ensures ok { IfOk result (λ _. words.old ≡ []) }

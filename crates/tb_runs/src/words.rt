@@ -47,7 +47,7 @@ fn begins_comment(bytes: &[u8]) -> bool
     }
 }
 
-/// The bytes after a place.
+/// The bytes after an index.
 pub fn behind(bytes: &[u8], at: usize) -> &[u8]
     ensures { result.now ≡ drop (suc at) bytes.now }
 {
@@ -58,7 +58,7 @@ pub fn behind(bytes: &[u8], at: usize) -> &[u8]
     }
 }
 
-/// The bytes from a place on.
+/// The bytes from an index on.
 pub fn from(bytes: &[u8], at: usize) -> &[u8]
     requires { at ≤ length bytes.now }
     ensures { result.now ≡ drop at bytes.now }

@@ -5,7 +5,7 @@ use std::process::Abort;
 use tb_model::{Action, Event};
 use tb_runs::{Said, Stage, read_event, read_line};
 
-/// The event that the line says, with the number of its step.
+/// The event that the line says, with the ordinal of its step.
 fn event_of(rt: &HostRuntime, line: &[u8]) -> Option<(Option<u64>, Event)> {
     match read_event(rt.alloc(), 2, line) {
         Ok(Some(Said::Event { step, event })) => Some((step, event)),

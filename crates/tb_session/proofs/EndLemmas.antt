@@ -82,7 +82,7 @@ module _ (workers limit : ℕ) (left mid : Option (List ℕ)) (s : Session) (d :
   unfolding head
   joined lines = append_assoc d.divided.program (d.divided.divider ∷ []) lines
 
-  -- the program and the commands, with the commands' lines behind the head
+  -- the program and the commands, with the commands' lines after the head
   says : (lines : List (List ℕ)) → IsProgram (program_text (head ++ lines)) d.program
   says lines =
       let program : program_text (head ++ lines) ≡ d.text =
@@ -130,7 +130,7 @@ module _ (workers limit : ℕ) (left mid : Option (List ℕ)) (s : Session) (d :
   answers_all : (bytes out : List ℕ) → Replies workers s (lines_of bytes) out → AnswerTo workers limit (lines_of (spelled head ++ bytes)) out
   answers_all bytes out r = let P : List (List ℕ) → Type 0 = λ ls. AnswerTo workers limit ls out in subst P (sym (lines_all bytes)) (answers (lines_of bytes) out r)
 
-  -- the commands' whole lines stand behind the head
+  -- the commands' whole lines are after the head
   abbrev stopped_behind : (new : Option (List ℕ)) → Stopped 0 mid new → Stopped 0 (prepend_known [] left) new
   stopped_behind new stop = record {
     lines = head ++ stop.lines;

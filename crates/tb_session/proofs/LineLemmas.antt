@@ -28,7 +28,7 @@ pub spelled_append : (lines more : List (List ℕ)) → spelled (lines ++ more) 
 spelled_append [] more = refl
 spelled_append (line ∷ lines) more = ap (λ l. line ++ 10 ∷ l) (spelled_append lines more) ∙ sym (append_assoc line (10 ∷ spelled lines) (spelled more))
 
--- what holds of all elements holds of those in front and of those behind
+-- what holds of all elements holds of those in front and of those after
 pub all_parts : {X : Type 0} (P : X → Type 0) (xs ys : List X) → AllByRecursion P (xs ++ ys) → AllByRecursion P xs × AllByRecursion P ys
 all_parts P [] ys h = (tt, h)
 all_parts P (x ∷ xs) ys h =

@@ -19,7 +19,7 @@ run_one {S} step old new line reply h = (reply, new, [], h, (refl, refl), sym (a
 -- ---- where each line has some step
 
 module _ {S : Type 0} (step : S → List ℕ → List ℕ → S → Type 0) (Fits : S → Type 0) where
-  -- what each step keeps, a run keeps
+  -- what each step retains, a run retains
   pub run_fits : ((old new : S) (line reply : List ℕ) → Fits old → step old line reply new → Fits new) → (old new : S) (lines : List (List ℕ)) (out : List ℕ) → Fits old → RunOf step old lines out new → Fits new
   run_fits keeps old new [] out h r = subst Fits (sym r.1) h
   run_fits keeps old new (line ∷ lines) out h r = run_fits keeps r.1 new lines r.2 (keeps old r.1 line r.0 h r.3) r.4

@@ -24,7 +24,7 @@ stopped_by old new lines line feed read unbroken next ended =
       few = le_refl 0;
     }
 
--- what stands after a line, by what ended it
+-- what is after a line, by what ended it
 abbrev pub feed_at : LineEnd → List ℕ
 feed_at Feed = 10 ∷ []
 feed_at Input = []

@@ -43,7 +43,7 @@ program_text lines = spelled (program_lines lines)
 
 -- ---- answers
 
--- the program is accepted, and these may be the replies to the commands behind it
+-- the program is accepted, and these may be the replies to the commands after it
 abbrev pub AnswerTo : (workers limit : ℕ) → List (List ℕ) → List ℕ → Type 0
 AnswerTo workers limit lines out = (P : Program) × IsProgram (program_text lines) P × Replies workers (opened P limit 65) (command_lines lines) out
 
@@ -95,8 +95,8 @@ abbrev pub AnswersWith : (workers limit : ℕ) → List (List ℕ) → List ℕ 
 AnswersWith workers limit lines out line reply =
     (AreUndivided lines → ⊥) × ((P : Program) × IsProgram (program_text lines) P × RepliesWith workers (opened P limit 65) (command_lines lines) out line reply)
 
--- the replies to whole lines were written, and a beginning of a reply to the next one, which asks for steps that are told in
--- pieces
+-- the replies to whole lines were written, and a beginning of a reply to the next one, which asks
+-- for steps that are written in pieces
 pub record BrokeOff (workers most : ℕ) (AreReplies : List (List ℕ) → List ℕ → List ℕ → List ℕ → Type 0) (left rest before after : Option (List ℕ)) : Type 0 where
   pub stopped : Stopped most left rest
   pub out : List ℕ

@@ -26,7 +26,7 @@ Cut old new = (lines : List (List ℕ)) × (part : List ℕ) × Consumes old new
 abbrev pub Halted : Option (List ℕ) → Option (List ℕ) → Type 0
 Halted old new = (stopped : Stopped 0 old new) × AreUndivided stopped.lines
 
--- the lines of the program, and the divider behind them
+-- the lines of the program, and the divider after them
 pub record Divided (old new : Option (List ℕ)) (text : List ℕ) : Type 0 where
   pub program : List (List ℕ)
   pub divider : List ℕ
@@ -70,7 +70,7 @@ Served workers s old new before after (Err _) = ⊥
 abbrev pub Answered : ℕ → Session → List ℕ → Option (List ℕ) → Option (List ℕ) → Result Held Halt → Type 0
 Answered workers old line before after (Ok new) = (reply : List ℕ) × Answers workers old line reply new.session × Appends before after reply
 Answered workers old line before after (Err Write) = (reply : List ℕ) × (new : Session) × (n : ℕ) × Answers workers old line reply new × Appends before after (take n reply)
--- of a reply a part only where the line asks for steps that are told in pieces
+-- of a reply a part only where the line asks for steps that are written in pieces
 Answered workers old line before after (Err Memory) = Appends before after [] ⊎ (AsksSteps workers line × Begins (Answers workers old line) before after)
 -- only where the line asks for a go of two or more workers
 Answered workers old line before after (Err Journal) = AsksSeveral workers line × Appends before after []

@@ -15,7 +15,7 @@ use tb_live::Live;
 use tb_read::{FaultKind, Program, read};
 use tb_replies::BoxedRun;
 
-/// Adds a line to the program text, but for the divider, and tells whether it is that. An empty
+/// Adds a line to the program text, but for the divider, and returns whether it is that. An empty
 /// piece adds nothing.
 fn keep(alloc: Global, text: &mut Vec<u8>, line: &[u8], end: LineEnd) -> Result<bool, AllocError>
     ensures { IfOk result (λ divides. Kept line.now end text.old.items text.new.items divides) }
@@ -30,7 +30,7 @@ fn keep(alloc: Global, text: &mut Vec<u8>, line: &[u8], end: LineEnd) -> Result<
     Ok(false)
 }
 
-/// Gathers the program text, and tells whether its divider or the end of what comes ended it.
+/// Gathers the program text, and returns whether its divider or the end of what comes ended it.
 pub fn gather<R: Wait, S: Source>(
     rt: &R,
     alloc: Global,

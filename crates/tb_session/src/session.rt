@@ -1,4 +1,4 @@
-//! A session: a program, the commands behind it, and the replies.
+//! A session: a program, the commands after it, and the replies.
 
 ghost use Rattle.std.specs.Prelude.{◌≡◌, ◌+◌, ◌-◌, ◌<◌, ◌≤◌, ◌^◌, ◌↔◌, [], length, OnOk, IsErrOf};
 ghost use Rattle.std.specs.Io.KnownBytes.{prepend_known};
@@ -17,7 +17,7 @@ use tb_lines::{LineEnd, LineFault, LineReader, Sink, Source};
 use tb_options::Settings;
 use tb_replies::BoxedRun;
 
-/// Reads the program and opens its session, and tells what ended the program's text.
+/// Reads the program and opens its session, and returns what ended the program's text.
 fn begin<R: Wait, S: Source>(
     rt: &R,
     alloc: Global,

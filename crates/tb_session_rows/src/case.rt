@@ -42,8 +42,8 @@ fn compared(alloc: Global, got: &[u8], want: &[u8], last: bool) -> Result<String
     format!(in alloc; "differs behind {line} lines")
 }
 
-/// Runs the case, and says whether it writes what is stored beside it. Where the word `last` follows the limit, what it writes
-/// has to end so, and what is in front of that may be anything.
+/// Runs the case, and says whether it writes what is stored with it. Where the word `last` follows
+/// the limit, what it writes has to end so, and what is in front of that may be anything.
 pub fn tell<R: Files + AllocGlobal + Threads + Wait + Sync>(
     rt: &R,
     name: &str,

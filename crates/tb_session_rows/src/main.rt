@@ -1,7 +1,7 @@
-//! Runs stored sessions over memory, and compares what each writes with what is stored beside it.
+//! Runs stored sessions over memory, and compares what each writes with what is stored with it.
 //! Standard input has a line a case: its name, and the most entries of its journal. The case is
-//! `NAME.session`, and what it is to write `NAME.out`. Where the word `last` stands after these, it is what the session is
-//! to write last: of a `go` of several workers no more is settled.
+//! `NAME.session`, and what it is to write `NAME.out`. Where the word `last` is after these, it is
+//! what the session is to write last: of a `go` of several workers no more is settled.
 #![tactic(auto)]
 
 mod case;

@@ -106,7 +106,7 @@ fn long_replies_go_out_in_pieces(rt: HostRuntime) -> Result<(), Fail> {
 fn a_read_that_fails_ends_the_session(rt: HostRuntime) -> Result<(), Fail> {
     let alloc = rt.alloc();
     let text = with_commands(alloc, "step 0\nste")?;
-    // By single bytes, so that each place of the text is one where a read fails.
+    // By single bytes, so that each index of the text is one where a read fails.
     for fails_at in 1..text.len() as u64 + 2 {
         // The command's line feed is the fourth byte from the end.
         let is_early = fails_at.saturating_add(3) <= text.len() as u64;

@@ -85,7 +85,8 @@ pub fn whole(bytes: &[u8]) -> FailsAt<'_>
     }
 }
 
-/// What a session of this source writes over a sink with this room, in how many calls, and how it ends.
+/// What a session of this source writes over a sink with this capacity, in how many calls, and how
+/// it ends.
 pub fn written<R: Threads + Wait + Sync>(
     rt: &R,
     alloc: Global,
@@ -108,7 +109,7 @@ pub fn written<R: Threads + Wait + Sync>(
     (sink.bytes, sink.calls, got.err())
 }
 
-/// Whether a session of this source, over a sink with this room, writes this and ends so.
+/// Whether a session of this source, over a sink with this capacity, writes this and ends so.
 pub fn is_session<R: Threads + Wait + Sync>(
     rt: &R,
     alloc: Global,

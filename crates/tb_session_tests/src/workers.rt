@@ -11,7 +11,7 @@ const SUMS: &str = "cells 1\nbody main 0\n\
     task add 7 depend mutexinoutset 0\ntask add 8 depend mutexinoutset 0\nend\n\
     body add 1\nload r1 0\nlet r1 r1 + r0\nstore 0 r1\nend\n---\n";
 
-/// Whoever takes the steps, and in whatever order, the sum is one.
+/// Whoever executes the steps, and in whatever order, the sum is one.
 #[test]
 fn four_workers_add_up(rt: HostRuntime) -> Result<(), Fail> {
     let text = format!(in rt.alloc(); "{SUMS}go 4 1000\ncells\n")?;
@@ -36,7 +36,7 @@ fn a_breakpoint_stops_four_workers(rt: HostRuntime) {
     assert!(rt; ends_with(&rt, rt.alloc(), text, want));
 }
 
-/// As many steps are taken as are asked for, and as the journal has room for.
+/// As many steps are executed as are asked for, and as the journal has capacity for.
 #[test]
 fn workers_stop_at_the_limit(rt: HostRuntime) -> Result<(), Fail> {
     let text = format!(in rt.alloc(); "{SUMS}go 3 20\ngo 2 0\ngo 5 1\n")?;

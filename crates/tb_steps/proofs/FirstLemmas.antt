@@ -1,4 +1,4 @@
--- The earliest entry that needs another, as a scan of the entries behind it finds it.
+-- The earliest stored step that needs another, as a scan of the stored steps after it finds it.
 use Rattle.std.proofs.Common.{◌≡◌, ◌<◌, ◌+◌, ℕ, suc, List, [], ◌∷◌, ◌++◌, Bool, true, false, refl, sym, ap, ap₂, ◌∙◌, subst, length, take, drop, Option, Some, None, arith, get_or, if◌then◌else◌, ⊎_elim}
 use Rattle.std.proofs.lemmas.Option.{slice_get_read, slice_get_cases}
 use Rattle.std.proofs.lemmas.List.{get_or-take, length-take, take-take}
@@ -12,20 +12,20 @@ use Rattle.tb_steps.specs.Entries.{Entry}
 use Rattle.tb_steps.specs.Scans.{AreLegal, history_of, step_behind, step_at}
 use Rattle.tb_steps.proofs.ScanLemmas.{history_cut, history_more}
 
--- ---- a legal history is legal up to each entry
+-- ---- a legal history is legal up to each stored step
 
 pub legal_front : (cells : Cells) (later front : History) → Legal cells (later ++ front) → Legal cells front
 legal_front cells [] front l = l
 legal_front cells (v ∷ later) front l = legal_front cells later front l.0
 
--- up to an entry and with it
+-- up to a stored step and with it
 pub legal_to : (cells : Cells) (entries : List Entry) (at : ℕ) (e : Entry) → at < length entries → e ≡ get_or entries at e → Legal cells (history_of entries) → Legal cells (e.event ∷ history_of (take at entries))
 legal_to cells entries at e within here l = legal_front cells (history_of (drop (suc at) entries)) (e.event ∷ history_of (take at entries)) (subst (Legal cells) (history_cut entries at e within here) l)
 
 pub front_legal : (entries : List Entry) (at : ℕ) (e : Entry) → at < length entries → e ≡ get_or entries at e → AreLegal entries → AreLegal (take at entries)
 front_legal entries at e within here l = record { cells = l.cells; legal = (legal_to l.cells entries at e within here l.legal).0 }
 
--- ---- the step at a place
+-- ---- the step at an index
 
 pub there : (entries : List Entry) (at : ℕ) → at < length entries → (e : Entry) × (e ≡ get_or entries at e)
 there entries at within =
@@ -71,7 +71,7 @@ module _ (entries : List Entry) (at later : ℕ) (u w : Entry) (id : StepId) (be
       (subst (λ i. first_needer i (w.event ∷ (b ++ u.event ∷ F)) ≡ (if needs (b ++ u.event ∷ F) w.event u.event then Some (step_of (b ++ u.event ∷ F) w.event) else None)) same
       (next_needer u.event F b w.event before))
 
-  -- the test, as it is made of the entries
+  -- the test, as it is made of the stored steps
   abbrev IsTold : Bool → Type 0
   IsTold b = (x y : Entry) → x ≡ get_or entries later x → y ≡ get_or entries at y → b ≡ needs front x.event y.event
 
@@ -79,7 +79,7 @@ module _ (entries : List Entry) (at later : ℕ) (u w : Entry) (id : StepId) (be
   tested b legal told =
       next ∙ ap (λ c. if c then Some (step_of front w.event) else None) (sym (told w u here first))
 
-  -- one entry more
+  -- one stored step more
   pub none_next : (b : Bool) → AreLegal entries → IsTold b → b ≡ false → first_needer id (history_of (take (later + 1) entries)) ≡ None
   none_next b legal told h =
       ap (first_needer id) (history_more entries later w within here) ∙ tested b legal told ∙ ap (λ c. if c then Some (step_of front w.event) else None) h

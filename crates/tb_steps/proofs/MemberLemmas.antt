@@ -18,7 +18,8 @@ some_open (us ∷ uss) = true
 abbrev pub member_of_first : Bool → List (List Name) → Name → Bool
 member_of_first found gs m = (some_open gs && found) || list_any (λ c. is_within c m) (innermost gs)
 
--- m is a member of the innermost group that stays open where so many more are closed behind these actions
+-- m is a member of the innermost group that stays open where so many more are closed after these
+-- actions
 abbrev pub member_behind : ℕ → Bool → List Action → Name → Bool
 member_behind closed found acts m = member_of_first found (drop closed (groups acts)) m
 
@@ -29,7 +30,7 @@ none_found (us ∷ uss) m = refl
 pub at_first : (acts : List Action) (m : Name) → member_behind 0 false acts m ≡ is_member acts m
 at_first acts m = none_found (groups acts) m
 
--- nothing is open behind no actions
+-- nothing is open after no actions
 pub at_last : (closed : ℕ) (found : Bool) (m : Name) → member_behind closed found [] m ≡ false
 at_last zero found m = refl
 at_last (suc k) found m = refl

@@ -1,4 +1,4 @@
--- Needs by scans: names tell who can't be waited for.
+-- Needs by scans: names say who can't be waited for.
 use Rattle.std.proofs.Common.{◌≡◌, List, [], ◌∷◌, true, ⊎_elim, refl, subst}
 use Rattle.std.specs.List.{list_any}
 use Rattle.std.proofs.lemmas.Bool.{false≢true, or_cases, or_left, or_right}
@@ -33,6 +33,6 @@ pub member_within : (entries : List Entry) (t u : Name) → AreLegal entries →
 member_within entries t u l =
     within_some t u _ (first_children t _ (group_children l.cells (history_of entries) t l.legal))
 
--- the undeferred task at which t stands is its child
+-- the undeferred task for which t waits is its child
 pub held_within : (entries : List Entry) (t u : Name) → AreLegal entries → holds (own t (history_of entries)) u ≡ true → is_child t u ≡ true
 held_within entries t u l h = (held_child l.cells (history_of entries) t u l.legal h).0

@@ -1,4 +1,4 @@
--- The history of entries, cut at one of them, and the places of steps.
+-- The history of stored steps, cut at one of them, and the indexes of steps.
 use Rattle.std.proofs.Common.{◌≡◌, ◌==◌, ◌&&◌, ◌||◌, ◌<◌, ◌+◌, ℕ, suc, Bool, List, [], ◌∷◌, ◌++◌, true, false, refl, sym, ap, ◌∙◌, length, map, take, drop, reverse, Some, arith, get_or, eq-eqb, eqb-true, append_assoc, ◌≤◌, ◌≢◌, ◌-◌, ⊎_elim}
 use Rattle.std.proofs.Math.Seq.{split_at}
 use Rattle.std.proofs.lemmas.List.{length-map, length-reverse, length-take-le, reverse-append, map-append}
@@ -18,22 +18,22 @@ use Rattle.tb_model.proofs.FactsLemmas.{own_mine, own_other}
 use Rattle.tb_steps.specs.Entries.{Entry, departure}
 use Rattle.tb_steps.specs.Scans.{history_of, step_behind, step_at}
 
--- ---- the history of entries
+-- ---- the history of stored steps
 
--- later entries give later events
+-- later stored steps give later events
 pub history_of-append : (xs ys : List Entry) → history_of (xs ++ ys) ≡ history_of ys ++ history_of xs
 history_of-append xs ys =
     ap (λ es. map (λ (d : Departure). d.event) (map departure es)) (reverse-append xs ys)
     ∙ ap (map (λ (d : Departure). d.event)) (map-append departure (reverse ys) (reverse xs))
     ∙ map-append (λ (d : Departure). d.event) (map departure (reverse ys)) (map departure (reverse xs))
 
--- there are as many events in front of a place as its number
+-- there are as many events in front of an index as it says
 pub count_front : (entries : List Entry) (at : ℕ) → at ≤ length entries → length (history_of (take at entries)) ≡ at
 count_front entries at h =
     length-map (map departure (reverse (take at entries))) (λ (d : Departure). d.event) ∙ length-map (reverse (take at entries)) departure
     ∙ length-reverse (take at entries) ∙ length-take-le at entries h
 
--- what stands behind an entry, itself, and what stands in front of it
+-- what is after a stored step, itself, and what is before it
 pub history_cut : (entries : List Entry) (at : ℕ) (e : Entry) → at < length entries → e ≡ get_or entries at e → history_of entries ≡ history_of (drop (suc at) entries) ++ e.event ∷ history_of (take at entries)
 history_cut entries at e within here =
     ap history_of (split_at entries at e within ∙ ap (λ x. take at entries ++ x ∷ drop (suc at) entries) (sym here))
@@ -41,11 +41,11 @@ history_cut entries at e within here =
     ∙ ap (λ H. H ++ history_of (take at entries)) (history_of-append (e ∷ []) (drop (suc at) entries))
     ∙ append_assoc (history_of (drop (suc at) entries)) (e.event ∷ []) (history_of (take at entries))
 
--- the events up to the next entry
+-- the events up to the next stored step
 pub history_more : (entries : List Entry) (at : ℕ) (e : Entry) → at < length entries → e ≡ get_or entries at e → history_of (take (at + 1) entries) ≡ e.event ∷ history_of (take at entries)
 history_more entries at e within here = grind (arith, common_steps)
 
--- the newest event, and what stands in front of it
+-- the newest event, and what is before it
 pub history_newest : (rest : List Entry) (e : Entry) → 1 ≤ length rest → e ≡ get_or rest (length rest - 1) e → history_of rest ≡ e.event ∷ history_of (take (length rest - 1) rest)
 history_newest rest e some here = grind (arith, common_steps, history_cut)
 
@@ -54,13 +54,13 @@ pub own_newest : (t : Name) (rest : List Entry) (e : Entry) (a : Action) → 1 �
 own_newest t rest e a some here mine is =
     ap (own t) (history_newest rest e some here) ∙ own_mine t e.event (history_of (take (length rest - 1) rest)) mine ∙ ap (λ b. b ∷ own t (history_of (take (length rest - 1) rest))) is
 
--- ---- where a step stands
+-- ---- where a step is
 
 stands_later : (i : StepId) (later front : History) → stands i front ≡ true → stands i (later ++ front) ≡ true
 stands_later i [] front h = h
 stands_later i (v ∷ later) front h = or_right (is_step i (later ++ front) v) _ (stands_later i later front h)
 
--- an entry is the step whose number is one more than how many of its task stand in front of it
+-- a stored step is the step whose ordinal is one more than how many of its task are before it
 module _ (entries : List Entry) (at : ℕ) (e : Entry) (i : StepId) (count : ℕ) (within : at < length entries) (here : e ≡ get_or entries at e) (mine : is_of i.task e.event ≡ true) (counted : count ≡ length (own i.task (history_of (take at entries)))) (last : count + 1 ≡ i.k) where
   abbrev front : History
   front = history_of (take at entries)
@@ -68,12 +68,12 @@ module _ (entries : List Entry) (at : ℕ) (e : Entry) (i : StepId) (count : ℕ
   step : is_step i front e.event ≡ true
   step = and_from (is_of i.task e.event) _ mine (eq-eqb i.k (suc (length (own i.task front))) (omega arith))
 
-  -- it stands
+  -- it is there
   pub found_stands : stands i (history_of entries) ≡ true
   found_stands =
       ap (stands i) (history_cut entries at e within here) ∙ stands_later i (history_of (drop (suc at) entries)) (e.event ∷ front) (or_left (is_step i front e.event) _ step)
 
-  -- at its place
+  -- at its index
   pub found_step_at : step_at entries at ≡ Some i
   found_step_at =
       ap (step_behind (take at entries)) (slice_get_read entries (length entries) at e refl within here) ∙ ap Some (the_step i front e.event step)
@@ -86,7 +86,7 @@ own_longer t v H = by_task (is_of t v) refl
     by_task true mine = let more : length (own t (v ∷ H)) ≡ suc (length (own t H)) = ap length (own_mine t v H mine) in omega (arith, more)
     by_task false other = let same : length (own t (v ∷ H)) ≡ length (own t H) = ap length (own_other t v H other) in omega (arith, same)
 
--- a step that stands has one of the numbers of its task's steps
+-- a step that is there has one of the ordinals of its task's steps
 pub numbered : (i : StepId) (H : History) → stands i H ≡ true → (1 ≤ i.k) × (i.k ≤ length (own i.task H))
 numbered i [] h = absurd (false≢true h)
 numbered i (v ∷ H) h = ⊎_elim here (λ l. let rest = numbered i H l in (rest.0, omega (arith, rest.1, own_longer i.task v H))) (or_cases (is_step i H v) (stands i H) h)
@@ -98,7 +98,7 @@ numbered i (v ∷ H) h = ⊎_elim here (λ l. let rest = numbered i H l in (rest
         let more : length (own i.task (v ∷ H)) ≡ suc (length (own i.task H)) = ap length (own_mine i.task v H o.0) in
         (omega (arith, number), omega (arith, number, more))
 
--- each number up to how many steps a task has is that of one of them
+-- each ordinal up to how many steps a task has is that of one of them
 pub has_numbered : (i : StepId) (H : History) → 1 ≤ i.k → i.k ≤ length (own i.task H) → stands i H ≡ true
 has_numbered i [] some most = absurd (omega (arith, some, most))
 has_numbered i (v ∷ H) some most = by_task (λ m. has_numbered i H some m) (is_of i.task v) refl
@@ -116,7 +116,7 @@ has_numbered i (v ∷ H) some most = by_task (λ m. has_numbered i H some m) (is
         let same : length (own i.task (v ∷ H)) ≡ length (own i.task H) = ap length (own_other i.task v H foreign) in
         or_right (is_step i H v) _ (rest (omega (arith, most, same)))
 
--- no step has the number 0, or a number beyond those of its task's steps
+-- no step has the ordinal 0, or an ordinal beyond those of its task's steps
 pub has_none : (i : StepId) (H : History) → i.k ≡ 0 → false ≡ stands i H
 has_none i H none = out (stands i H) refl
   where
@@ -131,7 +131,7 @@ has_not_so_many i H steps counted beyond = out (stands i H) refl
     out true s = absurd (omega (arith, beyond, counted, (numbered i H s).1))
     out false s = refl
 
--- the step isn't among those up to this place, of which so many are its task's
+-- the step isn't among those up to this index, of which so many are its task's
 pub record IsNotYet (i : StepId) (entries : List Entry) (at count : ℕ) : Type 0 where
   pub counted : count ≡ length (own i.task (history_of (take at entries)))
   pub within : count ≤ at
@@ -152,7 +152,7 @@ module _ (i : StepId) (entries : List Entry) (at count : ℕ) (e : Entry) (withi
     none = ap (stands i) next ∙ ap (λ b. (b && (i.k == suc (length (own i.task before)))) || stands i before) other ∙ is.none;
   }
 
-  -- or of another number
+  -- or of another ordinal
   pub not_of_number : is_of i.task e.event ≡ true → count + 1 ≢ i.k → IsNotYet i entries (at + 1) (count + 1)
   not_of_number mine other = record {
     counted = let more : length (own i.task (history_of (take (at + 1) entries))) ≡ suc (length (own i.task before)) = ap (λ H. length (own i.task H)) next ∙ ap length (own_mine i.task e.event before mine) in omega (arith, more, is.counted);
@@ -164,9 +164,9 @@ module _ (i : StepId) (entries : List Entry) (at count : ℕ) (e : Entry) (withi
       by true q = absurd (other (omega (arith, eqb-true i.k _ q, is.counted)))
       by false q = ap (λ b. (b && (i.k == suc (length (own i.task before)))) || stands i before) mine ∙ ap (λ b. b || stands i before) q ∙ is.none
 
--- ---- the same from the newest entry on
+-- ---- the same from the newest stored step on
 
--- the step doesn't stand from this place on, and so many of its task stand in front of the place
+-- the step isn't from this index on, and so many of its task are before the index
 pub record IsInFront (i : StepId) (entries : List Entry) (at : ℕ) (left : ℕ) : Type 0 where
   pub none : stands i (history_of (take at entries)) ≡ stands i (history_of entries)
   pub counted : left ≡ length (own i.task (history_of (take at entries)))
@@ -178,7 +178,7 @@ module _ (i : StepId) (entries : List Entry) (at left : ℕ) (e : Entry) (some :
   more : history_of (take at entries) ≡ e.event ∷ rest
   more = ap (λ n. history_of (take n entries)) (omega (arith, some)) ∙ history_more entries (at - 1) e (omega (arith, some, within)) here
 
-  -- an entry of another task
+  -- a stored step of another task
   pub among_other : is_of i.task e.event ≡ false → IsInFront i entries (at - 1) left
   among_other other = record {
     none = sym (ap (stands i) more ∙ ap (λ b. (b && (i.k == suc (length (own i.task rest)))) || stands i rest) other) ∙ is.none;

@@ -3,7 +3,8 @@ use Rattle.std.specs.Prelude.{ℕ, ℤ}
 use Rattle.tb_model.specs.declared.event.Event.{Event}
 use Rattle.tb_model.specs.Lines.{Departure}
 
--- the event, the line at which it left its task, that at which its task stood, and the number that it replaced, 0 where it replaced none
+-- the event, the line at which it left its task, that at which its task was, and the value that it
+-- replaced, 0 where it replaced none
 pub record Entry : Type 0 where
   pub event : Event
   pub to : ℕ

@@ -1,7 +1,7 @@
 -- What a contract sees of a store.
 use Rattle.std.specs.Prelude.{ℕ, ℤ, List, Option, Some, None, slice_index_or, slice_set}
 
--- the cells' numbers, the printed numbers in order, and how many more can be printed with no memory
+-- the cells' values, the printed values in order, and how many more can be printed with no memory
 pub record Contents : Type 0 where
   pub cells : List ℤ
   pub output : List ℤ

@@ -7,7 +7,7 @@ use crate::replaced::Replaced;
 use std::alloc::{AllocError, Global};
 use std::marker::Model;
 
-/// The numbers of the cells, and the printed numbers in order.
+/// The values of the cells, and the printed values in order.
 #[derive(Drop)]
 pub struct Store {
     cells: Vec<i64>,
@@ -24,7 +24,7 @@ impl Model for Store {
 }
 
 impl Store {
-    /// The cells with their first numbers, and nothing printed.
+    /// The cells with their first values, and nothing printed.
     pub fn open(alloc: Global, first: &[i64]) -> Result<Store, AllocError>
         ensures cells { IfOk result (λ s. s.cells ≡ first.now) }
         ensures output { IfOk result (λ s. s.output ≡ []) }
@@ -35,21 +35,21 @@ impl Store {
         })
     }
 
-    /// The numbers of the cells, in order.
+    /// The values of the cells, in order.
     pub fn cells(&self) -> &[i64]
         ensures { result.now ≡ self.now.cells }
     {
         self.cells.as_slice()
     }
 
-    /// The printed numbers, in order.
+    /// The printed values, in order.
     pub fn output(&self) -> &[i64]
         ensures { result.now ≡ self.now.output }
     {
         self.output.as_slice()
     }
 
-    /// The number of a cell.
+    /// The value of a cell.
     pub fn get(&self, cell: u32) -> i64
         requires { cell < length self.now.cells }
         ensures { result ≡ number_at self.now.cells cell }
@@ -58,7 +58,7 @@ impl Store {
         self.cells[at]
     }
 
-    /// Writes a cell, and tells the number that stood there.
+    /// Writes a cell, and returns the value that was there.
     pub fn put(&mut self, cell: u32, value: i64) -> Replaced
         requires { cell < length self.old.cells }
         ensures cells { self.new ≡ record self.old { cells = slice_set self.old.cells cell value } }
@@ -83,7 +83,7 @@ impl Store {
         }
     }
 
-    /// Makes the room that `say` needs, and changes nothing else.
+    /// Reserves the capacity that `say` needs, and changes nothing else.
     pub fn reserve_say(&mut self) -> Result<(), AllocError>
         ensures cells { self.new.cells ≡ self.old.cells }
         ensures output { self.new.output ≡ self.old.output }
@@ -94,7 +94,7 @@ impl Store {
         self.output.reserve(1)
     }
 
-    /// Prints a number. With room it takes no memory.
+    /// Prints a number. With capacity it takes no memory.
     pub fn say(&mut self, value: i64) -> Result<(), AllocError>
         ensures cells { self.new.cells ≡ self.old.cells }
         ensures said { OnOk result (self.new.output ≡ self.old.output ++ value ∷ []) }
@@ -107,8 +107,8 @@ impl Store {
         Ok(())
     }
 
-    /// Takes the last printed number back, and keeps its room. Where nothing was printed, nothing
-    /// changes.
+    /// Takes the last printed value back, and retains its capacity. Where nothing was printed,
+    /// nothing changes.
     pub fn unsay(&mut self)
         ensures cells { self.new.cells ≡ self.old.cells }
         ensures output { self.new.output ≡ take (length self.old.output - 1) self.old.output }

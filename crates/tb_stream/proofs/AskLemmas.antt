@@ -99,7 +99,7 @@ pub none_counts : (e : Bool) → counts_some (order_of e) None ≡ false
 none_counts true = refl
 none_counts false = refl
 
--- but for a start, what waits counts
+-- what waits counts, but for a start
 not_start : (e : Bool) (H : History) (t : Name) (a : Action) (u : Name) → (a ≡ Start → ⊥) → (wait_kind H t a u ≡ None) ⊎ (counts_some (order_of e) (wait_kind H t a u) ≡ true)
 not_start e H t Start u n = absurd (n refl)
 not_start e H t (Wait items) u n = by (covers H t items u)
@@ -197,7 +197,7 @@ module _ (r : Run) (n : ℕ) (w : n < length r.entries) where
         (and_parts (is_child v.task u.task) _
         (sym (wait_counts r.exclusion (covers (front r n) v.task items u.task)) ∙ sym (ap (λ a. counts_some (order r) (wait_kind (front r n) v.task a u.task)) is) ∙ sym (waits_is (order r) r.entries n x w i) ∙ h)).0
 
-    -- a step behind an undeferred child for that child
+    -- a step after an undeferred child for that child
     pub held_parent : holds (own v.task (front r n)) u.task ≡ true → parent_of u.task ≡ v.task
     held_parent h = child_parent v.task u.task (held_within (take n r.entries) v.task u.task (front_legal r.entries n (at Synchronised r.entries n w) w (at_is Synchronised r.entries n w) r.legal) h)
 

@@ -172,7 +172,7 @@ found_same H v o none found r begins =
       },
     )
 
--- ---- what is kept of the order without exclusion
+-- ---- what is stored of the order without exclusion
 
 pub loose_half : (H : History) (o : Option Half) (h : Half) → IsLoose H o → o ≡ Some h → IsHalf false H h
 loose_half H o h is e = subst (IsLoose H) e is

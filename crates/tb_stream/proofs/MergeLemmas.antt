@@ -43,7 +43,7 @@ module _ (r : Run) (n : ℕ) (lanes : Lanes) (rows : List (Vec LaneBound Global)
   pub merges_so : (P Q : ℕ → Type 0) (a b : Joined) → ((x : ℕ) → x < n → Q x → links_at (order r) r.entries n x ≡ true → P x) → Merges r n lanes rows k P a b → Merges r n lanes rows k Q a b
   merges_so P Q a b so f = record { are = f.are; kept = f.kept; told = λ x l q h. f.told x l (so x l q h) h; same = f.same }
 
-  -- with ends of which each row tells
+  -- with ends which each row has
   pub merges_own : (P Q : ℕ → Type 0) (a b : Joined) → ((x : ℕ) → x < n → Q x → links_at (order r) r.entries n x ≡ true → P x ⊎ ((j : Joined) → IsTold r n lanes k j x)) → Merges r n lanes rows k P a b → Merges r n lanes rows k Q a b
   merges_own P Q a b so f = record { are = f.are; kept = f.kept; told = λ x l q h. ⊎_elim (λ p. f.told x l p h) (λ t. t b) (so x l q h); same = f.same }
 
@@ -83,7 +83,7 @@ module _ (r : Run) (n : ℕ) (lanes : Lanes) (rows : List (Vec LaneBound Global)
       pub stored_end : IsFull r n lanes rows e.mark × (is_end_at r.entries e.mark.at ≡ true)
       stored_end = (stored.full i e here, subst (λ y. is_end_at r.entries y ≡ true) (end_is i e here) (low _ (stored.are.each i within)).1)
 
-      -- what is further back stands in front of where the walk begins
+      -- what is further back is before where the walk begins
       pub later_cut : (from : ℕ) → ((x : ℕ) → IsEnd r.entries n x → links_at (order r) r.entries n x ≡ true → from ≤ x) → e.mark.at < from → (a b : Joined) → Merges r n lanes rows k (Later (suc i)) a b → Merges r n lanes rows k P a b
       later_cut from asked early a b f = merges_so (Later (suc i)) P a b
           (λ x l p h.
@@ -118,7 +118,7 @@ module _ (r : Run) (n : ℕ) (lanes : Lanes) (rows : List (Vec LaneBound Global)
             ),
           )) f
 
-      -- it is told of, and so is what is skipped from it
+      -- it is listed, and so is what is skipped from it
       pub later_known : (b : Joined) → AreJoined r n lanes rows k b → IsTold r n lanes k b e.mark.at → ((x : ℕ) → x < n → Later (suc i) x → links_at (order r) r.entries n x ≡ true → IsTold r n lanes k b x)
           → (x : ℕ) → x < n → Later e.skip x → links_at (order r) r.entries n x ≡ true → IsTold r n lanes k b x
       later_known b are told rest x l p h =

@@ -1,4 +1,4 @@
--- What is kept of no events.
+-- What is stored of no events.
 use Rattle.std.proofs.Common.{◌≡◌, ℕ, zero, suc, List, [], ◌∷◌, Bool, length, refl, sym, ap, ◌∙◌, subst, arith, Option, Some, None, slice_get, Vec, Global}
 use Rattle.tb_model.specs.Names.{Name}
 use Rattle.tb_lanes.specs.declared.lane_bound.LaneBound.{LaneBound}

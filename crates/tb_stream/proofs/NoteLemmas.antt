@@ -65,7 +65,7 @@ module _ (r : Run) (m : ℕ) (lanes : Lanes) (rows : List (Vec LaneBound Global)
           subst (λ o. IsRowOf r m lanes rows (WithOne P key n k) o) (sym (writes k ∙ ap (λ b. cond b (Some v) (row_of old k)) e))
           (row_so (P k) (WithOne P key n k) (λ x h. inl h) (λ x h. ⊎_elim (λ a. a) (λ a. absurd (both_ways (same_key key k) e (subst (λ j. same_key j k ≡ true) a.1 (key_refl k)))) h) (row_of old k) (are k))
 
--- where the map was written as it stood
+-- where the map was written as it was
 pub moved_writes : (key : Key) (old mid new : Named) (v : Vec End Global) → mid ≡ old → ((u : Key) → row_of new u ≡ cond (same_key key u) (Some v) (row_of mid u)) → (u : Key) → row_of new u ≡ cond (same_key key u) (Some v) (row_of old u)
 moved_writes key old mid new v same writes u = writes u ∙ ap (λ (m : Named). cond (same_key key u) (Some v) (row_of m u)) same
 

@@ -1,4 +1,4 @@
--- What is kept of what is shared, one step more.
+-- What is stored of what is shared, one step more.
 use Rattle.std.proofs.Common.{◌≡◌, ◌≢◌, ◌==◌, ◌<◌, ◌≤◌, ◌+◌, ◌-◌, ℕ, zero, suc, List, [], ◌∷◌, ◌++◌, Bool, true, false, cond, length, take, refl, sym, ap, ◌∙◌, subst, arith, Option, Some, None, slice_get, Result, Ok, Err, IfOk, ◌⊎◌, inl, inr, ⊎_elim, eq-eqb, ne_eqb, get_or}
 use Rattle.std.proofs.lemmas.Bool.{cases_eq}
 use Rattle.std.proofs.lemmas.List.{length-map, map-append}
@@ -153,7 +153,7 @@ module _ (r : Run) (n i : ℕ) (w : n < length r.entries) (lanes next : Lanes) (
       loads = subst (AreAccesses r (n + 1) next) (sym less) (accesses_first r (n + 1) next loads t.loads.items (on t.loads.items are.loads));
     }
 
--- ---- all that is kept
+-- ---- all that is stored
 
 pub if_ok_map : {A E : Type 0} (x : Result A E) (P Q : A → Type 0) → ((a : A) → P a → Q a) → IfOk x P → IfOk x Q
 if_ok_map (Ok a) P Q f h = f a h
@@ -221,7 +221,7 @@ module _ (r : Run) (n : ℕ) (w : n < length r.entries) (lanes next : Lanes) (la
         (λ d. subst (AreTouchedSo r (n + 1) next j) (sym (other_is j d)) (so_more j (touched_of old j) (kept j) (subst (λ o. AreRows (order r) r.entries (n + 1) j (writes_of o) (loads_of o)) (other_is j d) (rows_met j))))
         (cases_eq j i)
 
--- nothing at a place
+-- nothing at an index
 pub touched_none : (r : Run) (n : ℕ) (lanes : Lanes) (i : ℕ) (t : Touched) → t.writes.items ≡ [] → t.loads.items ≡ [] → AreRows (order r) r.entries n i [] [] → AreTouched r n lanes i t
 touched_none r n lanes i t writes loads rows = record {
   rows = subst (λ xs. AreRows (order r) r.entries n i (places xs) (places t.loads.items)) (sym writes) (subst (λ xs. AreRows (order r) r.entries n i [] (places xs)) (sym loads) rows);
@@ -229,6 +229,6 @@ touched_none r n lanes i t writes loads rows = record {
   loads = λ j a g. absurd (none_some a (sym (ap (λ xs. slice_get xs j) loads) ∙ g));
 }
 
--- where the map was written as it stood
+-- where the map was written as it was
 pub moved_writes : (i : ℕ) (old mid new : Named) (v : Touched) → mid ≡ old → ((u : ℕ) → touched_of new u ≡ cond (i == u) (Some v) (touched_of mid u)) → (u : ℕ) → touched_of new u ≡ cond (i == u) (Some v) (touched_of old u)
 moved_writes i old mid new v same writes u = writes u ∙ ap (λ (m : Named). cond (i == u) (Some v) (touched_of m u)) same

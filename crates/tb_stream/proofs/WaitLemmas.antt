@@ -173,11 +173,11 @@ module _ (r : Run) (n : ℕ) (lanes : Lanes) (o : Order) (w : Waiter) (wait : Is
       none_counts true = refl
       none_counts false = refl
 
-  -- a step behind an undeferred child
+  -- a step after an undeferred child
   pub held_waits : (x : ℕ) (end : IsEnd r.entries n x) → is_start w.action.now ≡ false → holds (own v.task (front r n)) (ev r.entries x (at_end x end)).task ≡ true → IsChildEnd r n w.parent x
   held_waits x end other h = child_by x end (at_end x end) (held_parent r n inside x end (at_end x end) h ∙ sym (ap (λ b. cond b (parent_of v.task) v.task) other))
 
-  -- of the ends to which it is linked, it waits for those of others, or stood at their task
+  -- of the ends to which it is linked, it waits for those of others, or was at their task
   pub linked_ways : (x : ℕ) (end : IsEnd r.entries n x) → links_at (order r) r.entries n x ≡ true → (both_at of_one r.entries n x ≡ true) ⊎ ((waits_at (order r) r.entries n x ≡ true) ⊎ (holds (own v.task (front r n)) (ev r.entries x (at_end x end)).task ≡ true))
   linked_ways x end h = link_parts (order r) r.entries n x inside (at_end x end) end.1 h
 
@@ -194,7 +194,7 @@ module _ (r : Run) (n : ℕ) (lanes : Lanes) (o : Order) (w : Waiter) (wait : Is
       → (WaitsFor x ⊎ Q x) ⊎ ((j : Joined) → IsTold r n lanes k j x)
   all_by Q held x l end h = ⊎_elim (λ a. inr (λ j. own_known j x l a)) (λ b. ⊎_elim (λ a. inl (inl (end, a))) (λ a. inl (inr (held x end a))) b) (linked_ways x end h)
 
-  -- where it stood at an undeferred child
+  -- where it was at an undeferred child
   pub all_held : (a b c : Joined) → Merges r n lanes rows k WaitsFor a b → Merges r n lanes rows k (IsChildEnd r n w.parent) b c → Merges r n lanes rows k (IsEnd r.entries n) a c
   all_held a b c f g =
       merges_own r n lanes rows k (λ x. WaitsFor x ⊎ IsChildEnd r n w.parent x) (IsEnd r.entries n) a c

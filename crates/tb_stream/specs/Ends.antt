@@ -13,7 +13,7 @@ use Rattle.tb_stream.specs.Seen.{IsFull, IsId, Run, order}
 use mathlib.Core.Path.{sym, ◌∙◌}
 use lib.ListN.{length-map}
 
--- the vector of what stands for each element
+-- the vector of what represents each element
 abbrev pub mapped : {A B : Type 0} → (A → B) → Vec A Global → Vec B Global
 mapped f v = record { ptr = v.ptr; len = v.len; cap = v.cap; alloc = v.alloc; items = map f v.items; ok = (v.ok.0 ∙ sym (length-map v.items f), v.ok.1); small = v.small }
 
@@ -53,7 +53,7 @@ abbrev pub AtStage : Run → ℕ → Option (ℕ × ℕ) → Key → ℕ → Typ
 AtStage r n None = IsNoted r n
 AtStage r n (Some s) = SoFar r n s.0 s.1
 
--- those of the row of this key so far, or all
+-- the ends of the row of this key so far, or all
 abbrev pub IsMeant : Run → ℕ → Option (Option (ℕ × ℕ) × Key) → ℕ → Type 0
 IsMeant r n None = IsEnd r.entries n
 IsMeant r n (Some m) = AtStage r n m.0 m.1

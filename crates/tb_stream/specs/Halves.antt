@@ -1,4 +1,4 @@
--- What is kept of a history, by both orders.
+-- What is stored of a history, by both orders.
 use Rattle.std.specs.Prelude.{ℕ, suc, ◌≡◌, ◌≤◌, ◌∷◌, Bool, true, false, Option, Some, None, length}
 use Rattle.tb_clocks.specs.Ids.{AreIds}
 use Rattle.tb_clocks.specs.Known as known
@@ -38,7 +38,7 @@ pub record IsHalfOf (r : Run) (n : ℕ) (h : Half) : Type 0 where
   pub past : IsOrder r n lanes h.order
   pub kept : AreKept r n lanes h.kept.entries
 
--- whatever comes, it is what is kept of these events
+-- whatever comes, it is what is stored of these events
 abbrev pub IsHalf : Bool → History → Half → Type 0
 IsHalf exclusion H h = (r : Run) → Begins exclusion H r → IsHalfOf r (length H) h
 
@@ -63,7 +63,8 @@ conflict_of (Store c x) = Some (Cell c)
 conflict_of (Print x) = Some Prints
 conflict_of _ = None
 
--- what is kept of the order without exclusion: nothing where no tasks exclude each other, since it is then the one with it
+-- what is stored of the order without exclusion: nothing where no tasks exclude each other, since
+-- it is then the one with it
 abbrev pub IsLoose : History → Option Half → Type 0
 IsLoose H None = excludes_some H ≡ false
 IsLoose H (Some h) = IsHalf false H h

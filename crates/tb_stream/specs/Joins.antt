@@ -22,7 +22,8 @@ use Rattle.tb_model.specs.declared.place.Place.TheVariants.{Cell}
 use Rattle.tb_model.specs.Items.{same_place}
 use Rattle.tb_lanes.specs.Rows.{items_at}
 
--- the task with this id takes the step behind the first n, with this action; the tables are those of what is in front of it
+-- the task with this id executes the step after the first n, with this action; the tables are those
+-- of what is in front of it
 pub record IsNow (r : Run) (n : ℕ) (tasks : Tasks) (act : Action) (id : ℕ) : Type 0 where
   pub within : n < length r.entries
   pub facts : known.AreTasks r.legal.cells (front r n) tasks
@@ -56,11 +57,11 @@ IsChildEnd r n g x = IsEnd r.entries n x × IsChild r g x
 abbrev pub HasMet : Run → Option Kind → ℕ → ℕ → Type 0
 HasMet r kind c x = (i : ℕ) × (j : Item) × (slice_get (items_at r.entries x) i ≡ Some j) × (kind ≡ Some j.kind) × IsTrue (same_place (Cell c) j.place)
 
--- the row so far tells of q as one in front of the step
+-- the row so far has q as one in front of the step
 abbrev pub IsTold : Run → ℕ → Lanes → ℕ → Joined → ℕ → Type 0
 IsTold r n lanes k j q = IsTrue (is_told (order r) r.entries r.tasks lanes (bound_among j.rows.items) k n q)
 
--- an end that is told of
+-- an end that is listed
 pub record IsJoinedEnd (r : Run) (n : ℕ) (lanes : Lanes) (rows : List (Vec LaneBound Global)) (k : ℕ) (j : Joined) (m : Mark) : Type 0 where
   pub full : IsFull r n lanes rows m
   pub over : IsTrue (is_end_at r.entries m.at)

@@ -10,7 +10,7 @@ use Rattle.tb_stream.specs.declared.access.Access.{Access}
 use Rattle.tb_stream.specs.declared.touched.Touched.{Touched}
 use Rattle.tb_stream.specs.Seen.{IsMark, IsOf, Run, front, order}
 
--- its task and its number among the steps of the task
+-- the task of the step and its ordinal among the steps of the task
 pub record IsAccess (r : Run) (n : ℕ) (lanes : Lanes) (a : Access) : Type 0 where
   pub mark : IsMark n lanes a.mark
   pub task : IsOf r a.mark.at a.mark.task
@@ -24,14 +24,14 @@ abbrev pub behind : Option Access → ℕ
 behind None = 0
 behind (Some a) = suc a.mark.at
 
--- the last of the first, as many as are told
+-- the last of the first, as many as are given
 abbrev pub last_in : List Access → ℕ → Option Access
 last_in row n = if n == 0 then None else slice_get row (n - 1)
 
 abbrev pub AreAccesses : Run → ℕ → Lanes → List Access → Type 0
 AreAccesses r n lanes row = (j : ℕ) (a : Access) → slice_get row j ≡ Some a → IsAccess r n lanes a
 
--- what is kept of what has this number
+-- what is stored of what has this index
 pub record AreTouched (r : Run) (n : ℕ) (lanes : Lanes) (i : ℕ) (t : Touched) : Type 0 where
   pub rows : kept.AreRows (order r) r.entries n i (places t.writes.items) (places t.loads.items)
   pub writes : AreAccesses r n lanes t.writes.items
@@ -50,7 +50,7 @@ touched_of named i = lookup (λ j. i == j) named
 abbrev pub AreKept : Run → ℕ → Lanes → Named → Type 0
 AreKept r n lanes named = (i : ℕ) → AreTouchedSo r n lanes i (touched_of named i)
 
--- the step at n shares what has this number, and loads or doesn't
+-- the step at n shares what has this index, and loads or doesn't
 pub record IsTold (r : Run) (n i : ℕ) (load : Bool) : Type 0 where
   pub slot : (v : Entry) → slice_get r.entries n ≡ Some v → slot_of v.event.action ≡ Some i
   pub loads : (v : Entry) → slice_get r.entries n ≡ Some v → is_load v.event.action ≡ load

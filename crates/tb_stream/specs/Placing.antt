@@ -23,7 +23,7 @@ pub record IsBegun (r : Run) (n : ℕ) (lanes : Lanes) (rows : List (Vec LaneBou
   pub sound : IsSound (order r) r.entries r.tasks lanes (row_of rows m) m.lane n
   pub lane : IsLane r.entries lanes m.lane n
 
--- with its own row, which tells what is in front of it, and its own lane
+-- with its own row, which says what is in front of it, and its own lane
 pub record IsPlaced (r : Run) (n : ℕ) (lanes : Lanes) (rows : List (Vec LaneBound Global)) (m : Mark) : Type 0 where
   pub next : IsNext r n m
   pub within : m.row ≤ length rows
@@ -32,7 +32,7 @@ pub record IsPlaced (r : Run) (n : ℕ) (lanes : Lanes) (rows : List (Vec LaneBo
   pub low : IsLow (row_of rows m) n
   pub lane : IsLane r.entries lanes m.lane n
 
--- the row with which the step begins tells of each end to which it is linked
+-- the row with which the step begins has each end to which it is linked
 abbrev pub IsComplete : Run → ℕ → Lanes → List (Vec LaneBound Global) → Mark → Type 0
 IsComplete r n lanes rows m = TellsEnds (order r) r.entries r.tasks lanes (row_of rows m) m.lane n
 
@@ -42,7 +42,7 @@ pub record IsWaited (r : Run) (n : ℕ) (lanes : Lanes) (rows : List (Vec LaneBo
   pub ends : TellsEnds (order r) r.entries r.tasks lanes (bound_among j.rows.items) m.lane n
   pub same : j.end ≡ None → bound_among j.rows.items ≡ row_of rows m
 
--- the end is told of by the row that was made
+-- the end is listed by the row that was made
 pub record IsGoing (r : Run) (n : ℕ) (lanes : Lanes) (rows : List (Vec LaneBound Global)) (m end : Mark) (row : Vec LaneBound Global) : Type 0 where
   pub begun : IsBegun r n lanes rows m
   pub mark : IsMark n lanes end

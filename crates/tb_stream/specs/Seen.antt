@@ -29,7 +29,7 @@ pub record Run : Type 0 where
 abbrev pub order : Run → Order
 order r = order_of r.exclusion
 
--- its first n events
+-- the first n events of the run
 abbrev pub front : Run → ℕ → History
 front r n = history_of (take n r.entries)
 
@@ -56,7 +56,7 @@ pub record IsMark (n : ℕ) (lanes : Lanes) (m : Mark) : Type 0 where
   pub at : m.at < n
   pub lane : m.lane ≡ lanes.lane m.at
 
--- and it has the step's row and its task
+-- the mark is of the step, and has its row and its task
 pub record IsFull (r : Run) (n : ℕ) (lanes : Lanes) (rows : List (Vec LaneBound Global)) (m : Mark) : Type 0 where
   pub mark : IsMark n lanes m
   pub within : m.row ≤ length rows
@@ -79,13 +79,13 @@ pub record AreOfTasks (r : Run) (n : ℕ) (P : Name → Option Mark → Type 0) 
   pub listed : length marks ≡ length (names_in (front r n))
   pub each : (i : ℕ) (t : Name) (m : Option Mark) → HasId (front r n) i t → slice_get marks i ≡ Some m → P t m
 
--- the step behind the first n
+-- the step after the first n
 pub record IsNext (r : Run) (n : ℕ) (m : Mark) : Type 0 where
   pub at : m.at ≡ n
   pub within : n < length r.entries
   pub task : IsOf r n m.task
 
--- its action is this one
+-- the action of the step with this index is this one
 abbrev pub IsEvent : Run → ℕ → Action → Type 0
 IsEvent r n a = (v : Entry) → slice_get r.entries n ≡ Some v → a ≡ v.event.action
 
@@ -99,7 +99,7 @@ pub record AreClocks (r : Run) (n : ℕ) (lanes : Lanes) (clocks : Clocks) : Typ
   pub lasts_listed : length clocks.lasts.items ≡ lanes.count
   pub lasts : (k : ℕ) → k < lanes.count → slice_index_or clocks.lasts.items k 0 ≡ lanes.last k
 
--- the step that generated the task of another, whose origin has this number
+-- the step that generated the task of another, whose origin has this index
 abbrev pub IsOrigin : Run → ℕ → Lanes → List (Vec LaneBound Global) → Option Mark → ℕ → Type 0
 IsOrigin r n lanes rows None k = k ≡ 0
 IsOrigin r n lanes rows (Some m) k = IsFull r n lanes rows m × (k ≡ suc m.at)

@@ -6,6 +6,6 @@ use crate::mark::Mark;
 #[derive(Clone, Copy)]
 pub struct Access {
     pub mark: Mark,
-    /// The step's number among those of its task, from 1.
+    /// The step's ordinal among those of its task, from 1.
     pub k: u32,
 }

@@ -12,8 +12,8 @@ use crate::reaching::{origin_of, reaches};
 use std::alloc::{AllocError, Global};
 use tb_lanes::{LaneBound, add_row, bound_among as told_among, merged, row, whole};
 
-/// Whether the earlier step is told of as one in front of the step, where of its lane the row so far
-/// tells up to this bound.
+/// Whether the earlier step is listed as one in front of the step, where of its lane the row so far
+/// says up to this bound.
 pub fn is_merged(clocks: &Clocks, bound: usize, step: Mark, early: Mark) -> bool
     ensures { (r : Run) (n : ℕ) (lanes : Lanes) (row : ℕ → ℕ) → AreClocks r n lanes clocks.now
         → IsNext r n step → IsMark n lanes early → bound ≡ row (lanes.lane early.at)
@@ -35,8 +35,8 @@ fn origin_reaches(clocks: &Clocks, step: Mark, early: Mark) -> bool
     }
 }
 
-/// Adds the end, with all that is in front of it and isn't told yet. What generates its task is told
-/// with all that is in front of it, or must be added too.
+/// Adds the end, with all that is in front of it and isn't listed yet. What generates its task is
+/// listed with all that is in front of it, or must be added too.
 pub fn join(
     alloc: Global,
     rows: &mut Vec<Vec<LaneBound>>,

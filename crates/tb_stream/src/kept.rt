@@ -20,8 +20,8 @@ use tb_model::Action;
 /// By what they share, the output or a cell.
 pub type Kept = IndexMap<usize, Touched>;
 
-/// The newest step that shares something with this one and doesn't come before it. Then this step is
-/// kept too.
+/// The newest step that shares something with this one and doesn't come before it. Then this step
+/// is stored too.
 pub fn meet(
     alloc: Global,
     kept: &mut Kept,
@@ -53,7 +53,8 @@ pub fn meet(
     Ok(newest)
 }
 
-/// The newest step there with which this one races, if it isn't ordered. Then this step is kept too.
+/// The newest step there with which this one races, if it isn't ordered. Then this step is stored
+/// too.
 fn touch(
     touched: &mut Touched,
     clocks: &Clocks,
@@ -95,7 +96,7 @@ fn unordered(clocks: &Clocks, row: &[Access], mark: Mark) -> usize
     left
 }
 
-/// The last of the first steps of the row, as many as are told.
+/// The last of the first steps of the row, as many as are given.
 fn last_of(row: &[Access], count: usize) -> Option<Access>
     ensures { result ≡ last_in row.now count }
 {
@@ -118,7 +119,7 @@ fn newer(one: Option<Access>, other: Option<Access>) -> Option<Access>
     }
 }
 
-/// Of the row the first steps stay, as many as are told, and this one is added.
+/// Of the row the first steps stay, as many as are given, and this one is added.
 fn put(row: &mut Vec<Access>, count: usize, access: Access) -> Result<(), AllocError>
     ensures { OnOk result (row.new.items ≡ take count row.old.items ++ access ∷ []) }
 {

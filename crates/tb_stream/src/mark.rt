@@ -6,7 +6,7 @@ pub struct Mark {
     /// The step's index in the run.
     pub at: usize,
     pub lane: usize,
-    /// The number of its row, one more, and 0 where nothing was joined.
+    /// The index of its row, one more, and 0 where nothing was joined.
     pub row: usize,
     /// The id of its task.
     pub task: usize,

@@ -11,7 +11,7 @@ use std::alloc::Global;
 use tb_lanes::Key;
 
 /// The ends by what a step may wait for: those of the children of a task, and of those of them that
-/// have an item of a kind at a place.
+/// have an item of a kind at an index.
 pub type Rows = IndexMap<Key, Vec<End>>;
 
 /// An order of the steps of a run, where exclusion counts or doesn't.

@@ -107,7 +107,7 @@ fn finish(order: &mut Order, tasks: &Tasks, action: &Action, step: Mark) -> Resu
     }
 }
 
-/// The step with this row, which tells of the end: one that opens a lane goes on in that of the end,
+/// The step with this row, which has the end: one that opens a lane goes on in that of the end,
 /// where nothing else does.
 fn go_on(
     clocks: &mut Clocks,

@@ -23,8 +23,8 @@ fn is_full(events: usize, steps: u32) -> bool
     events >= MOST || steps == u32::MAX
 }
 
-/// What is kept of a run to tell with which earlier steps the next one races. Memory goes by tasks,
-/// lanes and cells, not by events.
+/// What is stored of a run to say with which earlier steps the next one races. Memory goes by
+/// tasks, lanes and cells, not by events.
 #[derive(Drop)]
 pub struct Races {
     alloc: Global,
@@ -50,7 +50,7 @@ impl Races {
     }
 
     /// Adds the next event, and returns the race that is named for it: with the newest event from
-    /// which exclusion doesn't keep it apart, else with the newest. After an error nothing is known
+    /// which exclusion doesn't separate it, else with the newest. After an error nothing is known
     /// of the run.
     pub fn push(&mut self, event: &Event) -> Result<Option<Race>, AllocError>
         ensures race { IfOk result (λ race. (cells : Cells) (H : History)

@@ -27,7 +27,7 @@ fn conflict_of(action: &Action) -> Option<Conflict>
     }
 }
 
-/// The race that is named for the step, which has this number in its task, where these are the
+/// The race that is named for the step, which has this ordinal in its task, where these are the
 /// newest with which it has one by the order with exclusion and by that without.
 pub fn race_of(
     ids: &Ids,

@@ -42,7 +42,7 @@ pub fn origin_of(clocks: &Clocks, mark: Mark) -> Option<Mark>
     }
 }
 
-/// The step, if it stands in front of this index.
+/// The step, if it is before this index.
 fn in_front(found: Option<Mark>, at: usize) -> Option<Mark>
     ensures same { (m : AMark) → found ≡ Some m → m.at < at → result ≡ found }
     ensures none { found ≡ None → result ≡ None }
@@ -55,7 +55,7 @@ fn in_front(found: Option<Mark>, at: usize) -> Option<Mark>
 }
 
 /// Whether the earlier step is one of the lane of the other and not after it, or the row of the
-/// other tells of it.
+/// other has it.
 fn is_below(clocks: &Clocks, mark: Mark, early: Mark) -> bool
     ensures { (r : Run) (n : ℕ) (lanes : Lanes) → IsFull r n lanes clocks.now.rows.items mark
         → IsMark n lanes early

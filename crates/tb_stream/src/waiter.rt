@@ -13,6 +13,6 @@ pub struct Waiter<'a> {
     pub step: Mark,
     /// The id of the task for whose children it may wait.
     pub parent: usize,
-    /// An index in front of which no end stands for which it waits.
+    /// An index in front of which there is no end for which it waits.
     pub from: usize,
 }

@@ -44,8 +44,8 @@ pub fn whose_children(tasks: &Tasks, task: usize, action: &Action) -> usize
     }
 }
 
-/// An index in front of which no end stands for which the step waits: that of the end of a taskgroup
-/// is where the group was opened, that of others 0.
+/// An index in front of which there is no end for which the step waits: that of the end of a
+/// taskgroup is where the group was opened, that of others 0.
 pub fn first_asked(tasks: &Tasks, task: usize, action: &Action) -> usize
     ensures { (r : Run) (n : ℕ) → IsNow r n tasks.now action.now task
         → (x : ℕ) → IsEnd r.entries n x

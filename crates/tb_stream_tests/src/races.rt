@@ -38,8 +38,8 @@ fn spawn(alloc: Global, n: u32) -> Option<Action>
     }
 }
 
-/// Adds a step, and returns the number of the step with which it races, 0 for none; none where there
-/// was no memory. What it needs isn't given back.
+/// Adds a step, and returns the ordinal of the step with which it races, 0 for none; none where
+/// there was no memory. What it needs isn't given back.
 fn racing(races: &mut Races, task: TaskName, action: Action) -> Option<u32> {
     let event = Event { task, action };
     let told = races.push(&event);
@@ -65,7 +65,7 @@ fn spawns(alloc: Global, races: &mut Races, n: u32) -> bool
     }
 }
 
-/// The number of the step with which the store of the root's nth child races.
+/// The ordinal of the step with which the store of the root's nth child races.
 fn stores(alloc: Global, races: &mut Races, n: u32) -> Option<u32>
     requires { 0 < n }
 {

@@ -20,7 +20,7 @@ fn all(kind: Kind) -> Item {
     }
 }
 
-/// Whether these are the numbers of the answer.
+/// Whether these are the ordinals of the answer.
 pub(crate) fn lists(answer: Result<Preds, AllocError>, numbers: &[usize]) -> bool {
     match answer {
         Ok(found) => found.as_slice() == numbers,
@@ -28,7 +28,7 @@ pub(crate) fn lists(answer: Result<Preds, AllocError>, numbers: &[usize]) -> boo
     }
 }
 
-/// Whether a child with this item of cell 0 depends on those with these numbers.
+/// Whether a child with this item of cell 0 depends on those with these ordinals.
 fn follows(siblings: &mut Siblings, kind: Kind, numbers: &[usize]) -> bool {
     lists(siblings.add([item(kind, 0)].as_slice()), numbers)
 }
@@ -49,7 +49,8 @@ fn a_writer_waits_for_both_readers(rt: HostRuntime) {
     mem::forget(siblings);
 }
 
-/// Children without items are only counted, until one comes with an item: then all have their numbers.
+/// Children without items are only counted, until one comes with an item: then all have their
+/// ordinals.
 #[test]
 fn a_child_with_an_item_follows_children_without(rt: HostRuntime) {
     let mut siblings = Siblings::new(rt.alloc());
@@ -70,7 +71,8 @@ fn a_child_with_an_item_follows_children_without(rt: HostRuntime) {
     mem::forget(siblings);
 }
 
-/// All children are over but these two, whatever depends on them: an answer tells whether they are asked.
+/// All children are over but these two, whatever depends on them: an answer says whether they are
+/// asked.
 #[derive(Drop)]
 struct AllBut {
     child: usize,
@@ -87,8 +89,9 @@ impl Over for AllBut {
     }
 }
 
-/// Of siblings that read, write, read, read and write one cell, the ones near each are none, 1, 2, 2,
-/// and 3 and 4. The others aren't asked, and by 4 not even 2, where 3 is over, which reads as 4 does.
+/// Of siblings that read, write, read, read and write one cell, the nearest ones of each are none,
+/// 1, 2, 2, and 3 and 4. The others aren't asked, and by 4 not even 2, where 3 is over, which reads
+/// as 4 does.
 #[test]
 fn only_those_near_are_asked(rt: HostRuntime) {
     let mut siblings = Siblings::new(rt.alloc());
@@ -113,12 +116,12 @@ fn only_those_near_are_asked(rt: HostRuntime) {
     mem::forget(siblings);
 }
 
-/// Whether these are near the child that was added last.
+/// Whether these are nearest to the child that was added last.
 fn is_near(siblings: &Siblings, numbers: &[usize]) -> bool {
     lists(siblings.near(siblings.len()), numbers)
 }
 
-/// Adds a child with these items, and tells whether these are near it.
+/// Adds a child with these items, and returns whether these are nearest to it.
 fn comes_near(siblings: &mut Siblings, items: &[Item], numbers: &[usize]) -> bool {
     match siblings.add(items) {
         Ok(_) => is_near(siblings, numbers),
@@ -126,7 +129,8 @@ fn comes_near(siblings: &mut Siblings, items: &[Item], numbers: &[usize]) -> boo
     }
 }
 
-/// Near a child are the last ones of one kind, and where these are of its own kind, the ones before.
+/// Nearest to a child are the last ones of one kind, and where these are of its own kind, the ones
+/// before.
 #[test]
 fn those_near_are_the_last_of_one_kind(rt: HostRuntime) {
     let mut siblings = Siblings::new(rt.alloc());
@@ -216,7 +220,7 @@ fn exclusion_orders_nobody(rt: HostRuntime) {
     mem::forget(siblings);
 }
 
-/// Whether a wait with this item covers the children with these numbers.
+/// Whether a wait with this item covers the children with these ordinals.
 fn covers_those(siblings: &Siblings, item: Item, numbers: &[usize]) -> bool {
     lists(siblings.covered([item].as_slice()), numbers)
 }
@@ -237,7 +241,7 @@ fn a_wait_covers_those_it_would_depend_on(rt: HostRuntime) {
     mem::forget(siblings);
 }
 
-/// Adds a child behind room for it, which is made again where it was refused.
+/// Adds a child after a reserve for it, which is made again where it was refused.
 fn add_reserved(
     rt: &impl Abort,
     siblings: &mut Siblings,
@@ -299,7 +303,7 @@ fn covered_count(siblings: &Siblings) -> Option<usize> {
     }
 }
 
-/// All children are covered by a wait without items, and none is kept apart from the first. Where
+/// All children are covered by a wait without items, and none is stored apart from the first. Where
 /// memory was refused they are asked for again.
 fn ask(rt: &impl Abort, siblings: &Siblings) {
     let covered = match covered_count(siblings) {

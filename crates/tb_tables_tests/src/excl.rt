@@ -1,4 +1,4 @@
-//! That each call of the table of exclusion succeeds, and calls with little memory.
+//! Tests that each call of the table of exclusion succeeds, and calls with little memory.
 
 use std::alloc::{AllocError, AllocGlobal};
 use std::mem;
@@ -32,7 +32,7 @@ fn told(table: &Holders) -> [Option<u32>; 3] {
     ]
 }
 
-// Whether the child with this number is the one that excludes a task from the first cell.
+// Whether the child with this ordinal is the one that excludes a task from the first cell.
 fn names_child(table: &Holders, number: u32) -> Result<bool, AllocError> {
     let first = [exclusive(0)];
     let child = table.parent().child(1.max(number))?;
@@ -43,8 +43,8 @@ fn names_child(table: &Holders, number: u32) -> Result<bool, AllocError> {
     }
 }
 
-// What is told behind each call: the second child takes both cells behind room for them, ends, its
-// end is undone, and its start, and then the first child takes all memory.
+// What is returned after each call: the second child takes both cells after a reserve for them,
+// ends, its end is undone, and its start, and then the first child takes all memory.
 fn take_and_give_back(
     table: &mut Holders,
     both: &[Item],

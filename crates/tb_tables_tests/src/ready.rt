@@ -6,7 +6,7 @@ use std::process::Abort;
 use tb_model::TaskName;
 use tb_ready::Ready;
 
-/// The name with these numbers, from the root down.
+/// The name with these ordinals, from the root down.
 fn name(alloc: Global, numbers: &[u32]) -> Result<TaskName, AllocError> {
     let mut name = TaskName::root(alloc);
     for n in numbers {
@@ -23,7 +23,7 @@ fn add_all(alloc: Global, ready: &mut Ready, rows: &[&[u32]]) -> Result<(), Allo
     Ok(())
 }
 
-/// Marks the names, and tells whether none of them was marked.
+/// Marks the names, and returns whether none of them was marked.
 fn mark_each(alloc: Global, ready: &mut Ready, rows: &[&[u32]]) -> Result<bool, AllocError> {
     let mut fresh = true;
     for numbers in rows {
@@ -47,7 +47,7 @@ fn come_in_order(alloc: Global, ready: &Ready, rows: &[&[u32]]) -> Result<bool, 
     Ok(ready.least(&skip).is_none())
 }
 
-/// Whether the name is the one at this place.
+/// Whether the name is the one at this index.
 fn stands_at(alloc: Global, ready: &Ready, at: usize, numbers: &[u32]) -> Result<bool, AllocError> {
     let name = name(alloc, numbers)?;
     Ok(ready.nth(at) == Some(&name))
@@ -79,7 +79,7 @@ fn names_of(alloc: Global, rows: &[&[u32]]) -> Result<Vec<TaskName>, AllocError>
     Ok(names)
 }
 
-/// Adds the names at these places, one after another, and marks them.
+/// Adds the names at these indexes, one after another, and marks them.
 fn mark_all(ready: &mut Ready, names: &[TaskName], places: &[usize]) -> Result<(), AllocError> {
     for at in places {
         if let Some(name) = names.get(*at) {
@@ -90,7 +90,7 @@ fn mark_all(ready: &mut Ready, names: &[TaskName], places: &[usize]) -> Result<(
     Ok(())
 }
 
-/// Whether the walk tells where the name stands.
+/// Whether the walk says where the name is.
 fn is_at(ready: &Ready, walk: usize, name: &TaskName) -> bool {
     match ready.index_in(walk) {
         Some(index) => ready.nth(index) == Some(name),
@@ -98,7 +98,7 @@ fn is_at(ready: &Ready, walk: usize, name: &TaskName) -> bool {
     }
 }
 
-/// Whether these are all the marked names, in order, each where a walk over them tells.
+/// Whether these are all the marked names, in order, each where a walk over them says.
 fn are_marked(ready: &Ready, names: &[TaskName]) -> bool {
     let mut walk = 0;
     let mut after = None;
@@ -140,7 +140,7 @@ fn the_marked_names_follow_in_order(rt: HostRuntime) {
     mem::forget(ready);
 }
 
-/// The root, and a child for which the room was made first.
+/// The root, and a child for which the capacity was made first.
 fn add_child(alloc: Global, ready: &mut Ready, child: &TaskName) -> Result<(), AllocError> {
     ready.add(TaskName::root(alloc))?;
     let named = child.clone()?;
@@ -148,7 +148,7 @@ fn add_child(alloc: Global, ready: &mut Ready, child: &TaskName) -> Result<(), A
     ready.add(named)
 }
 
-/// An end of the child and its undo, and then its spawn's undo, behind which a mark changes nothing.
+/// An end of the child and its undo, and then its spawn's undo, after which a mark changes nothing.
 fn end_and_undo(rt: &(impl Abort + AllocGlobal), ready: &mut Ready, child: &TaskName) {
     ready.mark(child, false);
     assert!(rt; ready.is_there(child) && !ready.can(child));
@@ -187,7 +187,7 @@ fn an_end_and_its_undo_take_no_memory(rt: HostRuntime) {
     mem::forget(ready);
 }
 
-/// Adds the name behind room for it, which is made again where it was refused.
+/// Adds the name after a reserve for it, which is made again where it was refused.
 fn add_reserved(
     rt: &(impl Abort + AllocGlobal),
     ready: &mut Ready,

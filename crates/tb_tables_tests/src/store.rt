@@ -1,4 +1,4 @@
-//! That calls succeed, and that what is taken back needs no memory.
+//! Tests that calls succeed, and that what is taken back needs no memory.
 
 use std::alloc::{AllocError, AllocGlobal};
 use std::mem;
@@ -15,7 +15,7 @@ fn write_and_take_back(rt: &impl Abort, store: &mut Store) {
     assert!(rt; store.cells() == [5, 0].as_slice());
 }
 
-/// Prints behind room, and in the room of what was taken back.
+/// Prints after a reserve, and in the capacity of what was taken back.
 fn say_and_take_back(store: &mut Store) -> Result<(), AllocError> {
     store.reserve_say()?;
     store.say(1).unwrap();
@@ -34,7 +34,7 @@ fn writes_prints_and_takes_back(rt: HostRuntime) {
     mem::forget(store);
 }
 
-/// Prints behind room, which is made again where it was refused.
+/// Prints after a reserve, which is made again where it was refused.
 fn say_reserved(rt: &impl Abort, store: &mut Store) -> Result<(), AllocError> {
     let before = store.output().len();
     if store.reserve_say().is_err() {

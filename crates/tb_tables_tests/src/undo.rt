@@ -46,8 +46,8 @@ struct Replacements {
     again: Replaced,
 }
 
-/// The root starts and stores. The store is taken back and taken again. It returns what each of the
-/// three steps replaced.
+/// The root starts and stores. The store is taken back and executed again. It returns what each of
+/// the three steps replaced.
 fn run(tables: &mut Tables, start: &Event, store: &Event) -> Result<Replacements, AllocError>
     requires state { IsState (ℤ.pos 5 ∷ []) 2 [] tables.old }
     requires start { start.now ≡ record { task = []; action = Start } }

@@ -1,4 +1,4 @@
-//! That each call of the table of children and groups succeeds, and calls with little memory.
+//! Tests that each call of the table of children and groups succeeds, and calls with little memory.
 
 use std::alloc::{AllocError, AllocGlobal};
 use std::mem;
@@ -74,8 +74,8 @@ pub fn child_again(rt: &(impl Abort + AllocGlobal), task: &TaskName, number: u32
     }
 }
 
-// The task generates four children, each in a group of its own, and the first is the least. Then it opens a fifth group,
-// for which the row has no place in itself.
+// The task generates four children, each in a group of its own, and the first is the least. Then it
+// opens a fifth group, which the row itself can't hold.
 fn grow(rt: &(impl Abort + AllocGlobal), table: &mut Wait, task: &TaskName) {
     for n in 0..4u32 {
         spawn_again(rt, table, task, n);
@@ -102,7 +102,7 @@ fn a_refused_growth_changes_nothing(rt: HostRuntime) {
     mem::forget(table);
 }
 
-// The child of the root with this number.
+// The child of the root with this ordinal.
 pub fn child_of_root(rt: &(impl Abort + AllocGlobal), number: u32) -> TaskName {
     TaskName::root(rt.alloc())
         .child(1.max(number))
@@ -118,7 +118,7 @@ fn spawn_four(rt: &(impl Abort + AllocGlobal), table: &mut Wait, root: &TaskName
     table.ended(&child_of_root(rt, 2));
 }
 
-// The first unended child of the root's child with this number, above no number.
+// The first unended child of the root's child with this ordinal, above no ordinal.
 fn next_of_child(rt: &(impl Abort + AllocGlobal), table: &Wait, number: u32) -> Option<u32> {
     let child = child_of_root(rt, number);
     let next = table.next_unended(&child, 0);
@@ -126,7 +126,7 @@ fn next_of_child(rt: &(impl Abort + AllocGlobal), table: &Wait, number: u32) -> 
     next
 }
 
-// The first unended child of the task above each of the numbers from 0 to 4.
+// The first unended child of the task above each of the ordinals from 0 to 4.
 fn next_above(table: &Wait, task: &TaskName) -> [Option<u32>; 5] {
     [
         table.next_unended(task, 0),

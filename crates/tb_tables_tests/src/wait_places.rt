@@ -27,7 +27,7 @@ fn spawn_down(rt: &(impl Abort + AllocGlobal), table: &mut Wait, levels: u32) {
     mem::forget(task);
 }
 
-// Whether the child of the task with this number is over, where it was ever generated.
+// Whether the child of the task with this ordinal is over, where it was ever generated.
 fn is_child_over(
     rt: &(impl Abort + AllocGlobal),
     table: &Wait,
@@ -40,7 +40,7 @@ fn is_child_over(
     over
 }
 
-/// A task is found by its numbers from the root on, where nothing near it was asked of.
+/// A task is found by its ordinals from the root on, where nothing close to it was asked of.
 #[test]
 fn a_deep_task_is_found_by_its_numbers(rt: HostRuntime) {
     let mut table = Wait::open(rt.alloc()).expect(&rt, "memory is there");
@@ -66,7 +66,7 @@ fn a_deep_task_is_found_by_its_numbers(rt: HostRuntime) {
     mem::forget(table);
 }
 
-// The place of the root's child with this number, as it is asked for by itself and in a walk.
+// The index of the root's child with this ordinal, as it is asked for by itself and in a walk.
 fn child_places(rt: &(impl Abort + AllocGlobal), table: &Wait, number: u32) -> [Option<usize>; 2] {
     let child = child_of_root(rt, number);
     let mut near = 0;
@@ -86,7 +86,7 @@ fn known_children(rt: &(impl Abort + AllocGlobal), table: &Wait, parent: &TaskNa
     known
 }
 
-/// A task keeps its place where its spawn is undone, and one that is new comes after all others.
+/// A task retains its index where its spawn is undone, and one that is new comes after all others.
 #[test]
 fn a_task_keeps_its_place(rt: HostRuntime) {
     let mut table = Wait::open(rt.alloc()).expect(&rt, "memory is there");

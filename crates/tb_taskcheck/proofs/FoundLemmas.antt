@@ -39,7 +39,7 @@ module _ (H : History) (v : Event) where
   abbrev pub Names : Races → Option Race → Type 0
   Names races o = (cells : Cells) → AreRaces cells H races → Legal cells (v ∷ H) → o ≡ race_of H v
 
-  -- with the event these tell the races of those to come
+  -- with the event these give the races of those to come
   abbrev pub Adds : Races → Races → Type 0
   Adds old new = (cells : Cells) → AreRaces cells H old → Legal cells (v ∷ H) → AreRaces cells (v ∷ H) new
 
@@ -70,7 +70,7 @@ same_ok : {A E : Type 0} (x y : A) → ◌≡◌ {A = Result A E} (Ok x) (Ok y) 
 same_ok x y h = cc
 
 module _ (event : Option Event) (old new : Found) (adds : (H : History) → IsFound H old → IsFound (with_event event H) new) where
-  -- the races of the run behind some lines
+  -- the races of the run after some lines
   abbrev IsBehind : Result Sofar (ℕ × Ending) → Found → Type 0
   IsBehind r found = (s : Sofar) → r ≡ Ok s → IsFound (history_in s) found
 

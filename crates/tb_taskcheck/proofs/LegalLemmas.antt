@@ -36,7 +36,7 @@ module _ (s : Sofar) (events unended : ℕ) (names front : List ℕ) (l : ListsU
                 ∙ ap₂ (λ a b. a ++ b) front_is (ap₂ (λ n b. races_head n ++ b) f.count f.lines);
           }
 
--- what is told of the run that the judge has taken
+-- what is said of the run that the judge has taken
 abbrev pub ReportsRun : ℕ → Judge → Found → Outcome → List ℕ → Type 0
 ReportsRun events judge found o out =
     (s : Sofar) (cells : Cells) → IsBehind judge s → Legal cells (history_in s) → IsFound (history_in s) found → events ≡ length (history_in s)

@@ -125,7 +125,7 @@ cut judge lines line s taken u v long j ahead =
     ap lines_of (append_assoc (spelled lines) line ahead) ∙ (lines_of_spelled lines (line ++ ahead) u ∙ ap (λ l. lines ++ l) p.split) in
     subst (IsJudged judge) (sym bytes) (ends_long judge lines p.others line (line ++ p.rest) s taken long (longer line p.rest long) j)
 
--- it isn't that of a legal text
+-- a verdict of lines at which the judgement ends isn't that of a legal text
 whole_by : (v : Verdict) (lines : List (List ℕ)) (rest : Option (List ℕ)) (f : ℕ × Ending) → lines_behind 1 start lines ≡ Err f → IsVerdict v lines → IsWhole v rest
 whole_by (verdict.Legal events judge) lines rest f h v =
     absurd (not_both _ f (sym (ap ended_after h) ∙ v.judged))

@@ -19,7 +19,7 @@ use Rattle.tb_verdict.specs.Texts.{text_judged}
 use Rattle.tb_verdict.specs.declared.ending.Ending.{Ending}
 use Rattle.tb_verdict.specs.declared.ending.Ending.TheVariants as ending
 
--- ---- names that rise are told by which they are
+-- ---- names that rise are known by which they are
 
 abbrev Has : List Name → Name → Type 0
 Has ts t = list_any (same_name t) ts ≡ true

@@ -22,7 +22,7 @@ use Rattle.tb_verdict.specs.Texts.{Sofar, history_in}
 
 -- ---- the tasks that the walk has found
 
--- those found are all in front of what comes after, and no other unended task is
+-- the tasks found are all in front of what comes after, and no other unended task is
 pub record Found (H : History) (after : Option Name) (ts : List Name) : Type 0 where
   pub rise : Rises ts
   pub each : AllByRecursion (λ t. IsTrue (is_unended H t)) ts

@@ -13,12 +13,12 @@ use Rattle.tb_verdict.specs.Texts.{Sofar, history_in, lines_behind, start, text_
 abbrev pub listed : History → List Race
 listed H = reverse (races H)
 
--- one of them exclusion doesn't keep apart
+-- one of them exclusion doesn't separate
 abbrev pub some_unordered : List Race → Bool
 some_unordered [] = false
 some_unordered (r ∷ races) = if r.apart then some_unordered races else true
 
--- what is kept tells the races of the events to come, and those of these events are listed
+-- what is stored gives the races of the events to come, and those of these events are listed
 pub record AreFound (cells : Cells) (H : History) (found : Found) : Type 0 where
   pub held : AreRaces cells H found.races
   pub lines : found.lines ≡ race_lines (listed H)

@@ -71,7 +71,7 @@ abbrev pub names_text : List Name → List ℕ
 names_text [] = []
 names_text (t ∷ ts) = name_text t ++ codes "\n" ++ names_text ts
 
--- the number of events, and that of the unended tasks with their names
+-- the count of events, and that of the unended tasks with their names
 abbrev pub head_text : ℕ → ℕ → List ℕ
 head_text events count = codes "legal " ++ decimal events ++ codes "\nunended " ++ decimal count ++ codes "\n"
 
@@ -83,7 +83,7 @@ abbrev pub by_names : List Name → Outcome
 by_names [] = outcome.Over
 by_names (t ∷ ts) = outcome.Unended
 
--- by whether two of its steps race that exclusion doesn't keep apart, and by its unended tasks
+-- by whether two of its steps race that exclusion doesn't separate, and by its unended tasks
 abbrev pub outcome_of : Bool → List Name → Outcome
 outcome_of unordered ts = if unordered then outcome.Racing else by_names ts
 

@@ -12,7 +12,7 @@ use tb_model::Event;
 use tb_races::Race;
 use tb_stream::Races;
 
-/// The races of a run so far, as lines, and what tells those of the events to come. Memory goes by
+/// The races of a run so far, as lines, and what gives those of the events to come. Memory goes by
 /// the tasks, the cells and the races, and not by the events.
 #[derive(Drop)]
 pub struct Found {
@@ -20,7 +20,7 @@ pub struct Found {
     /// A line a race, by the order of their later steps.
     pub lines: Draft,
     pub count: u32,
-    /// Whether one of the races is between steps that exclusion doesn't keep apart.
+    /// Whether one of the races is between steps that exclusion doesn't separate.
     pub is_unordered: bool,
 }
 
@@ -68,7 +68,7 @@ impl Found {
         }
     }
 
-    /// Adds the next event, if there is one. After an error nothing is known of what is kept.
+    /// Adds the next event, if there is one. After an error nothing is known of what is stored.
     pub fn add_event(&mut self, event: &Option<Event>) -> Result<(), AllocError>
         ensures { OnOk result ((H : History) → IsFound H self.old
             → IsFound (with_event event.now H) self.new) }

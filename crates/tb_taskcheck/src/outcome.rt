@@ -10,8 +10,8 @@ pub enum Outcome {
     Over,
     /// A legal run, some of whose tasks haven't ended, and which isn't racing.
     Unended,
-    /// A legal run, whether or not it is over, of which two steps race that exclusion doesn't keep
-    /// apart.
+    /// A legal run, whether or not it is over, of which two steps race that exclusion doesn't
+    /// separate.
     Racing,
     /// A run with an event that may not follow those in front of it.
     Refused,

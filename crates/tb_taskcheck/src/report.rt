@@ -34,7 +34,7 @@ fn put_head(names: &mut Draft, alloc: Global, events: u32, unended: u32) -> Resu
     names.prepend_draft(head)
 }
 
-/// Puts what stands in front of the lines of the races, and how many these are.
+/// Puts what is before the lines of the races, and how many these are.
 fn put_front(lines: &mut Draft, mut front: Draft, races: u32) -> Result<(), AllocError>
     ensures { OnOk result (lines.new ≡ front ++ races_head races ++ lines.old) }
 {
@@ -55,8 +55,8 @@ fn outcome(is_unordered: bool, unended: u32) -> Outcome
     }
 }
 
-/// The report of a legal run of so many events, which the judge has taken, with these races. What is
-/// kept to find more isn't given back.
+/// The report of a legal run of so many events, which the judge has taken, with these races. What
+/// is stored to find more isn't given back.
 fn legal_report(
     alloc: Global,
     events: u32,

@@ -1,4 +1,4 @@
-//! Judges stored run texts over memory, and compares each report with what is stored beside it.
+//! Judges stored run texts over memory, and compares each report with what is stored with it.
 //! Standard input has a line a case: its name, and the exit status that is wanted. The text is
 //! `NAME.run`, and its report, or its fault, `NAME.out`.
 #![tactic(auto)]

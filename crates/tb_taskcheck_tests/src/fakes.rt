@@ -89,7 +89,7 @@ impl Sink for Taken {
     }
 }
 
-/// Whether the judgement of this source, over a sink with this room, writes this and ends so.
+/// Whether the judgement of this source, over a sink with this capacity, writes this and ends so.
 pub fn is_judged<R: Wait>(
     rt: &R,
     alloc: Global,

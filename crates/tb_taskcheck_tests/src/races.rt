@@ -1,4 +1,4 @@
-//! The races that a report tells. The reports are those of the definitions, worked out apart.
+//! The races that a report lists. The reports are those of the definitions, worked out apart.
 
 use crate::fakes::{FailsAt, is_judged};
 use std::alloc::{AllocError, Global};
@@ -9,7 +9,7 @@ use tb_taskcheck::Outcome;
 /// The clause of tasks that aren't under way at once.
 const EXCLUDED: &str = " depend mutexinoutset 0";
 
-/// A store and a load that nothing orders, and then two stores that exclusion keeps apart.
+/// A store and a load that nothing orders, and then two stores that exclusion separates.
 const EXCLUDED_LAST: &[u8] = b"\
     cells 2\n\
     0 start\n\
@@ -50,7 +50,7 @@ fn is_reported<R: Wait>(
     is_judged(rt, alloc, source, 1000, report, Ok(outcome))
 }
 
-/// A race is told before it is that a task hasn't ended.
+/// A race is reported before an unended task.
 #[test]
 fn a_race(rt: HostRuntime) -> Result<(), Fail> {
     let alloc = rt.alloc();
@@ -89,7 +89,7 @@ fn no_race(rt: HostRuntime) -> Result<(), Fail> {
     Ok(())
 }
 
-/// Of two races the one that exclusion doesn't keep apart decides, whichever comes first.
+/// Of two races the one that exclusion doesn't separate decides, whichever comes first.
 #[test]
 fn two_races(rt: HostRuntime) -> Result<(), Fail> {
     let alloc = rt.alloc();

@@ -1,4 +1,4 @@
--- Why no step follows, by what a claim told.
+-- Why no step follows, by what a claim returned.
 use Rattle.std.proofs.Common.{◌≡◌, ◌≢◌, ℕ, Bool, true, false, ◌||◌, Option, Some, None, refl, sym, ap₂, ◌∙◌}
 use Rattle.std.specs.Prelude.{IsTrue, IsFalse}
 use Rattle.std.proofs.lemmas.Bool.{false≢true}
@@ -15,7 +15,7 @@ use Rattle.tb_live.specs.Session.{Session, history, is_full}
 use Rattle.tb_live.specs.Working.{ClaimsWork}
 use Rattle.tb_team.specs.Turns.{why_idle}
 
--- some task can step, and there is a place
+-- some task can step, and there is a slot
 busy : (o : Option Name) (full : Bool) → o ≢ None → full ≡ false → why_idle o full ≡ None
 busy None full some room = absurd (some refl)
 busy (Some t) true some room = absurd (false≢true (sym room))

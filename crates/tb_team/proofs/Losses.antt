@@ -68,7 +68,7 @@ numbers_on seats n numbers i d lt =
     let within : 1 + i < length seats = omega (arith, lt, length-take n (drop 1 seats), length-drop 1 seats) in
     ap (λ (s : Seated). s.number) (get_or-take n (drop 1 seats) i d below ∙ get_or_after_one seats i d) ∙ (numbers (1 + i) d within ∙ omega arith)
 
--- the workers' refusal is told
+-- the workers' refusal is returned
 pub as_refused : {A B : Type 0} (Q : Lost → Type 0) (r : Result A Lost) (worked : Result B Lost) → IfErr r (λ why. worked ≡ Err why) → IfErr worked Q → IfErr r Q
 as_refused Q (Ok a) worked is lost = tt
 as_refused {B = B} Q (Err why) worked is lost = subst (λ (w : Result B Lost). IfErr w Q) is lost
@@ -80,7 +80,7 @@ astray workers most from s mid back (Ok a) free at is sound within wrong = tt
 astray workers most from s mid back (Err why) free at is sound within wrong =
     inr (back, record { is = subst (λ (z : Session). IsBack z back) free is; sound = sound; within = within }, subst (λ n. IsAstray workers most n back why) at wrong)
 
--- a course after which no stop is told
+-- a course after which no stop is returned
 pub unstopped : (workers most from : ℕ) (s : Session) (why : Lost) → IsCourse workers from s → length s.journal ≤ most + from → IsUnstopped (length s.journal - from) most s why → IsAstray workers most from s why
 unstopped workers most from s Memory course within why = (course, within, why)
 unstopped workers most from s Unseated course within why = absurd why

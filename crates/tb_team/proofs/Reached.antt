@@ -83,7 +83,7 @@ may_step (Some r) e = cc
 not_alone : (n : ℕ) → n ≡ 1 → 1 < n → ⊥
 not_alone n one several = omega (arith, one, several)
 
--- what is known of a turn that was taken
+-- what is known of a turn that was executed
 pub record CanTurn (workers : ℕ) (s : Session) (seat : ℕ) (v : Event) : Type 0 where
   pub unstopped : stop_of s ≡ None
   pub turn : IsTurn workers s seat v.task
@@ -142,11 +142,11 @@ module _ (workers most : ℕ) (several : 1 < workers) (s : Session) (well_formed
   abbrev pub IsTaken : List Entry → Type 0
   IsTaken J = Sound s.program J × (length J ≤ s.limit)
 
-  -- the mode once as many steps were taken
+  -- the mode once as many steps were executed
   abbrev pub Goes : (J : List Entry) (count : ℕ) → Reached workers begun J count → Type 0
   Goes J count r = r.at.control.mode ≡ counting (most - count)
 
-  -- behind one turn more
+  -- after one turn more
   abbrev pub Turned : (seat : ℕ) (v : Event) (J : List Entry) (count : ℕ) → Type 0
   Turned seat v J count =
       (r : Reached workers begun (Stepped seat v ∷ J) (count + 1))

@@ -39,7 +39,7 @@ met_as_read points step line t a at task did =
     ap₂ (λ (k : ℕ) (u : Name). is_some (met k (record { task = u; action = a }) points)) at task
     ∙ ap (λ (b : Action). is_some (met step.at (record { task = step.event.task; action = b }) points)) did
 
--- the record's line is the one at which the task stood
+-- the record's line is the one at which the task was
 pub met_by_record : (P : Program) (points : List Breakpoint) (c : Step) (steps : List Step) → AreRun P (c ∷ steps) → is_met points c ≡ meets_newest P points (history_of (c ∷ steps))
 met_by_record P points c steps are =
     let shorter = shorter_run P c steps are in
@@ -51,12 +51,12 @@ none_by_records P points [] steps are = refl
 none_by_records P points (c ∷ cs) steps are =
     ap₂ (λ a b. not a && b) (met_by_record P points c (cs ++ steps) are) (none_by_records P points cs steps (shorter_run P c (cs ++ steps) are))
 
--- none of the steps from the one place on met a breakpoint, as far as the other
+-- none of the steps from the one index on met a breakpoint, as far as the other
 abbrev pub none_between : List Breakpoint → List Step → ℕ → ℕ → Bool
 none_between points steps from to = list_all (λ step. not (is_met points step)) (take (to - from) (drop from steps))
 
 module _ (points : List Breakpoint) (steps : List Step) where
-  -- the step at the place, and those after it
+  -- the step at the index, and those after it
   one_more : (at to : ℕ) (step : Step) → at < to → to ≤ length steps → step ≡ get_or steps at step → none_between points steps at to ≡ (not (is_met points step) && none_between points steps (at + 1) to)
   one_more at to step below within here =
       let fewer : to - at ≡ suc (to - (at + 1)) = omega arith in

@@ -3,8 +3,8 @@ use Rattle.std.specs.Prelude.{◌≡◌, length, take}
 use Rattle.tb_live.specs.Session.{Session}
 use Rattle.tb_work.specs.Changes.{entries}
 
--- it is a run of the program under the same limit and with the same breakpoints and seats, and its journal begins with what
--- the journal was
+-- the second is a run of the program under the same limit and with the same breakpoints and seats,
+-- and its journal begins with what the journal was
 pub record IsBack (old new : Session) : Type 0 where
   pub program : new.program ≡ old.program
   pub limit : new.limit ≡ old.limit

@@ -19,7 +19,7 @@ use Rattle.tb_team.specs.declared.stop.Stop.{Stop}
 use Rattle.tb_team.specs.declared.stop.Stop.TheVariants.{Break, Limit}
 use Rattle.tb_team.specs.Turns.{why_idle}
 
--- the step met a breakpoint, by its own record of the line at which its task stood
+-- the step met a breakpoint, by its own record of the line at which its task was
 abbrev pub is_met : List Breakpoint → Step → Bool
 is_met points step = is_some (met step.at step.event points)
 
@@ -36,7 +36,8 @@ none_met P points zero H = true
 none_met P points (suc count) [] = true
 none_met P points (suc count) (v ∷ H) = not (meets_newest P points (v ∷ H)) && none_met P points count H
 
--- the entries from the place on are steps of so many workers, and no step but the newest met a breakpoint
+-- the entries from the slot on are steps of so many workers, and no step but the newest met a
+-- breakpoint
 pub record IsCourse (workers from : ℕ) (s : Session) : Type 0 where
   pub turns : list_all (is_turn workers) (drop from (entries s)) ≡ true
   pub unmet : none_met s.program s.control.breakpoints.standing (length s.journal - from - 1) (drop 1 (history s)) ≡ true
@@ -65,8 +66,8 @@ freed claims s = record {
   control = record { claims = withdrawn (λ t. true) claims; breakpoints = s.control.breakpoints; mode = Resumed };
 }
 
--- what was looked at: the run is sound, the entries from the place on are a course of at most so many turns, and this is why
--- it stops
+-- what was looked at: the run is sound, the entries from the slot on are a course of at most so
+-- many turns, and this is why it stops
 pub record IsLooked (workers most from : ℕ) (s : Session) (gone : Gone) : Type 0 where
   pub well_formed : WellFormed s.program
   pub sound : Sound s.program s.journal

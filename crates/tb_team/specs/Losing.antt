@@ -35,7 +35,8 @@ pub record HasMet (P : Program) (limit : ℕ) (points : Points) (seats : ℕ) (b
   pub last : seat ≤ workers
   pub ended : IsAnswer P limit points seats begun (IsEnding seat MetTakenCell)
 
--- the run of the team that was left has as many new entries as its seats have receipts, but not the place of this one
+-- the run of the team that was left has as many new entries as its seats have receipts, but not the
+-- slot of this one
 pub record HasGap (P : Program) (limit : ℕ) (points : Points) (seats : ℕ) (begun : List Entry) : Type 0 where
   pub left : Session
   pub team : IsOfTeam P limit points seats begun left
@@ -47,7 +48,8 @@ pub record HasGap (P : Program) (limit : ℕ) (points : Points) (seats : ℕ) (b
   pub place : ℕ
   pub gap : first_gap (length left.journal) (all_receipts held) ≡ Some place
 
--- of a team: that a cell of a place that stands was written, and that memory was wanted, no contract of the kit tells
+-- of a team: that a cell of a slot that is there was written, and that memory was wanted, no
+-- contract of the kit says
 abbrev pub IsLostBy : Program → ℕ → Points → ℕ → List Entry → ℕ → Lost → Type 0
 IsLostBy P limit points seats begun workers Memory = ⊤
 IsLostBy P limit points seats begun workers Written = ⊤
@@ -69,15 +71,16 @@ IsUnlent workers s why =
 
 -- ---- as it comes back
 
--- after so many steps of at most so many no stop is told: nothing stops the workers, or memory was wanted where it was asked
--- whether a task can step, which comes after all else
+-- after so many steps of at most so many no stop is returned: nothing stops the workers, or memory
+-- was wanted where it was asked whether a task can step, which comes after all else
 abbrev pub IsUnstopped : (count most : ℕ) → Session → Lost → Type 0
 IsUnstopped count most s Unstopped = reason (nat_lt 0 count && meets_newest s.program s.control.breakpoints.standing (history s)) (nat_eq count most) s ≡ None
 IsUnstopped count most s Memory =
     IsFalse (nat_lt 0 count && meets_newest s.program s.control.breakpoints.standing (history s)) × IsFalse (nat_eq count most) × (least_task s ≢ None → IsFalse (is_full s))
 IsUnstopped count most s _ = ⊥
 
--- the entries from the place on are no course, or a course of more than was asked for, or nothing stops the workers after it
+-- the entries from the slot on are no course, or a course of more than was asked for, or nothing
+-- stops the workers after it
 abbrev pub IsAstray : (workers most from : ℕ) → Session → Lost → Type 0
 IsAstray workers most from s Course = IsCourse workers from s → ⊥
 IsAstray workers most from s Many = IsCourse workers from s × (most + from < length s.journal)

@@ -1,4 +1,4 @@
--- How a reply tells why a run of steps stops.
+-- How a reply says why a run of steps stops.
 use Rattle.std.specs.Prelude.{ℕ, List, codes}
 use Rattle.tb_team.specs.declared.stop.Stop.{Stop}
 use Rattle.tb_team.specs.declared.stop.Stop.TheVariants.{Break, Limit, Done, Full}

@@ -33,8 +33,8 @@ stop_of s = option_or (why_paused s.control.mode) (why_idle (least_task s) (is_f
 
 -- ---- turns
 
--- a worker, of seat 1 or more, may claim the task and commit its next step; a worker alone gets the least task that can
--- step, and beside others any that can
+-- a worker, of seat 1 or more, may claim the task and commit its next step; a worker alone gets the
+-- least task that can step, and next to others any that can
 pub record IsTurn (workers : ℕ) (s : Session) (seat : ℕ) (t : Name) : Type 0 where
   pub first : 1 ≤ seat
   pub last : seat ≤ workers
@@ -42,7 +42,7 @@ pub record IsTurn (workers : ℕ) (s : Session) (seat : ℕ) (t : Name) : Type 0
   pub may : MayStep s t
   pub alone : workers ≡ 1 → least_task s ≡ Some t
 
--- behind the task's next step, by a seat
+-- after the task's next step, by a seat
 abbrev pub stepped_by : ℕ → Session → Name → Session
 stepped_by seat s t = with_entry s (Stepped seat (coming s t))
 

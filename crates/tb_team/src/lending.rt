@@ -23,7 +23,7 @@ use tb_work::{
     AdoptRefusal, Closed, Gap, GoRefusal, Places, Seat, Shared, Team, is_seated, run_is_sound,
 };
 
-/// Lets the workers of these seats, which count from 1, take up to so many steps.
+/// Lets the workers of these seats, which count from 1, execute up to so many steps.
 fn work_as<N: Team + Send + Sync, R: Threads + Wait + Sync>(
     rt: &R,
     shared: &Shared<N>,
@@ -42,7 +42,7 @@ fn work_as<N: Team + Send + Sync, R: Threads + Wait + Sync>(
     }
 }
 
-/// Lets the workers of the seats from 1 on take up to so many steps.
+/// Lets the workers of the seats from 1 on execute up to so many steps.
 fn work<N: Team + Send + Sync, R: Threads + Wait + Sync>(
     rt: &R,
     shared: &Shared<N>,
@@ -78,7 +78,7 @@ fn run_of(closed: Closed) -> Live
     closed.live
 }
 
-/// The run that lacks a receipt's place is given up.
+/// The run that lacks a receipt's slot is given up.
 fn lost_in(gap: Gap) -> Lost
     ensures lost { result ≡ Lost.Gap }
     ensures run { IsRun gap.closed.live.session }

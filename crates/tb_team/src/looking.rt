@@ -13,7 +13,7 @@ use tb_core::History;
 use tb_live::{Breakpoint, Live};
 use tb_model::{Action, TaskName};
 
-/// Whether a step of the task with this action meets a breakpoint. The task stood at this line.
+/// Whether a step of the task with this action meets a breakpoint. The task was at this line.
 fn meets_some(points: &[Breakpoint], line: u32, task: &TaskName, action: &Action) -> bool
     ensures { result ≡ is_some (met line (record { task = task.now; action = action.now }) points.now) }
 {
@@ -25,7 +25,7 @@ fn meets_some(points: &[Breakpoint], line: u32, task: &TaskName, action: &Action
     false
 }
 
-/// Whether the step at this place met a breakpoint, by its own record.
+/// Whether the step at this index met a breakpoint, by its own record.
 fn is_met(points: &[Breakpoint], steps: &History<'_>, at: usize) -> bool
     requires { at < length steps.now }
     ensures { (step : Step) → step ≡ get_or steps.now at step → result ≡ is_met points.now step }
@@ -33,7 +33,7 @@ fn is_met(points: &[Breakpoint], steps: &History<'_>, at: usize) -> bool
     meets_some(points, steps.line(at), steps.task(at), steps.action(at))
 }
 
-/// Whether none of the steps from the one place on met a breakpoint, as far as the other.
+/// Whether none of the steps from the one index on met a breakpoint, as far as the other.
 fn none_met(points: &[Breakpoint], steps: &History<'_>, from: usize, to: usize) -> bool
     requires rises { from ≤ to }
     requires within { to ≤ length steps.now }
@@ -47,7 +47,7 @@ fn none_met(points: &[Breakpoint], steps: &History<'_>, from: usize, to: usize) 
     true
 }
 
-/// Whether the entries of the journal from the place on are turns of so many workers.
+/// Whether the entries of the journal from the slot on are turns of so many workers.
 fn are_turns_from(live: &Live, workers: u32, from: usize) -> bool
     requires { from ≤ length live.now.session.journal }
     ensures { result ≡ list_all (is_turn workers) (drop from (entries live.now.session)) }
@@ -81,8 +81,8 @@ pub fn newest_is_met(live: &Live) -> bool
     is_met(live.breakpoints(), &steps, all - 1)
 }
 
-/// Whether the entries from the place on are turns of so many workers, and no step but the newest met a
-/// breakpoint.
+/// Whether the entries from the slot on are turns of so many workers, and no step but the newest
+/// met a breakpoint.
 pub fn is_course(live: &Live, workers: u32, from: usize) -> bool
     requires { from ≤ length live.now.session.journal }
     ensures { IsTrue result ↔ IsCourse workers from live.now.session }

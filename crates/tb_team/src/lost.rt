@@ -13,11 +13,11 @@ pub enum Lost {
     Memory,
     /// An entry of the journal is of none of the run's seats.
     Unseated,
-    /// The cell of a place that stands was written already.
+    /// The cell of a slot that is there was written already.
     Written,
     /// A worker met a cell that was taken.
     Taken,
-    /// A receipt's place isn't in the journal.
+    /// A receipt's slot isn't in the journal.
     Gap,
     /// The new entries aren't steps of the workers, or run on past one that met a breakpoint.
     Course,

@@ -1,4 +1,4 @@
-//! A gate that keeps nobody.
+//! A gate that stops nobody.
 
 use tb_work::Gate;
 

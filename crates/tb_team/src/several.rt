@@ -1,4 +1,4 @@
-//! Workers take steps of a run.
+//! Workers execute steps of a run.
 
 ghost use Rattle.std.specs.Prelude.{◌≡◌, ◌<◌, ◌≤◌, IfOk, IfErr, length};
 ghost use Rattle.tb_team.specs.Gone.{HasSeats, IsGone};
@@ -25,7 +25,7 @@ fn look(live: Live, workers: u32, most: u32, from: usize) -> Result<Gone, Lost>
 {
     let mut live = live;
     live.journal_is_sound();
-    // for the proof: what the core keeps of the history
+    // for the proof: what the core retains of the history
     let _core = live.core();
     if !is_course(&live, workers, from) {
         return Err(lose(live, Lost::Course));
@@ -44,7 +44,7 @@ fn look(live: Live, workers: u32, most: u32, from: usize) -> Result<Gone, Lost>
     }
 }
 
-/// Lets so many workers take up to so many steps in all. They stop at a breakpoint.
+/// Lets so many workers execute up to so many steps in all. They stop at a breakpoint.
 pub fn go_several<R: Threads + Wait + Sync>(
     rt: &R,
     alloc: Global,
@@ -60,7 +60,7 @@ pub fn go_several<R: Threads + Wait + Sync>(
 {
     let mut live = live;
     let from = live.journal().len();
-    // a claim that was left would keep its task from all workers
+    // a claim that was left would block its task for all workers
     live.withdraw_all();
     let live = match lend(rt, alloc, live, workers, most) {
         Ok(live) => live,

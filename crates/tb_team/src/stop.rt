@@ -3,7 +3,7 @@
 ghost use Rattle.std.specs.Prelude.{◌≡◌};
 ghost use Rattle.tb_team.specs.Stops.{stop_word};
 
-/// Why a run takes no more steps: the first that holds, in this order.
+/// Why a run executes no more steps: the first that holds, in this order.
 #[derive(Clone, Copy, Debug, PartialEq, Eq)]
 pub enum Stop {
     /// The step just taken met a breakpoint.
@@ -12,12 +12,12 @@ pub enum Stop {
     Limit,
     /// No task can step: all have ended.
     Done,
-    /// The journal has no place.
+    /// The journal has no slot.
     Full,
 }
 
 impl Stop {
-    /// How a reply tells it.
+    /// How a reply says it.
     pub fn word(&self) -> &'static str
         ensures { result.now ≡ stop_word self.now }
     {

@@ -1,4 +1,4 @@
-//! Why workers take no more steps.
+//! Why workers execute no more steps.
 
 ghost use Rattle.std.specs.Prelude.{◌≡◌, ◌≢◌, ◌&&◌, IfOk, IfErr, OnErr, IsTrue, IsFalse, None, Some, nat_lt, nat_eq};
 ghost use Rattle.tb_live.specs.Modes.{is_paused};
@@ -15,7 +15,7 @@ use crate::stop::Stop;
 use std::alloc::AllocError;
 use tb_live::{Claim, Live, StepRefusal};
 
-/// Whether no task can step, where the journal has a place.
+/// Whether no task can step, where the journal has a slot.
 fn is_done(live: &mut Live) -> Result<bool, AllocError>
     requires seats { HasSeats live.old.session }
     requires going { IsFalse (is_paused live.old.session.control.mode) }

@@ -75,7 +75,7 @@ acted_spawn v old new s q can room store waits marks comes =
       room = λ r h. has.child r (sym (comes.rest v.task other) ∙ h);
     })
 
--- the number that is written over is a cell's or a register's
+-- the value that is written over is a cell's or a register's
 pub one_number : (a : Action) (cells regs : List ℤ) → option_or (cell_over a cells) (register_over a regs) ≡ number_over a cells regs
 one_number (Store c x) cells regs = refl
 one_number Start cells regs = refl

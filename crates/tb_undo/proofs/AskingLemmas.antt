@@ -1,4 +1,4 @@
--- What each search of the tables says of what keeps a task, whatever history they are of.
+-- What each search of the tables says of what blocks a task, whatever history they are of.
 use Rattle.std.proofs.Common.{◌≡◌, ◌<◌, ◌≤◌, ℕ, true, List, Option, Some, None, option_map, slice_get, sym, ap, ◌∙◌, subst}
 use Rattle.tb_model.specs.declared.item.Item.{Item}
 use Rattle.tb_model.specs.declared.action.Action.{Action}

@@ -1,4 +1,4 @@
--- A task comes to stand at its name's place, and stands no longer.
+-- A task comes to be at its name's index, and is no longer there.
 use Rattle.std.proofs.Common.{◌≡◌, ◌⊎◌, ◌<◌, ◌≤◌, ◌++◌, ◌==◌, ℕ, zero, suc, Bool, true, false, cond, List, [], ◌∷◌, Option, Some, None, is_some, length, set, refl, sym, ap, ◌∙◌, subst, arith, ⊎_elim, eqb-true, unwrap_or}
 use Rattle.std.specs.Prelude.{position, option_map}
 use Rattle.std.specs.Map.{keys_of}
@@ -60,9 +60,9 @@ none_goes old t none = goes old old t at
         by true h = ap (row old) (sym (same_true t u h)) ∙ none ∙ sym (ap (λ b. cond b None (row old u)) h)
         by false h = sym (ap (λ b. cond b None (row old u)) h)
 
--- ---- a row at the place of a name that has just come
+-- ---- a row at the index of a name that has just come
 
--- a place that is looked for among the first n, and n where there is none
+-- an index that is looked for among the first n, and n where there is none
 pub found_among : (o : Option ℕ) (n at : ℕ) → at ≡ unwrap_or o n → at < n → o ≡ Some at
 found_among None n at e w = absurd (omega (arith, e, w))
 found_among (Some i) n at e w = ap (λ x. Some x) (sym e)
@@ -90,7 +90,7 @@ module _ (tasks before : Waiting) (rows : List (Option Row)) (p : AreInPlace bef
   last_place h =
       ap (position (same_name t)) (more_keys h) ∙ grown_last (same_name t) (keys_of before) t (unknown_place before t h) (same_refl t) ∙ ap Some length_is
 
-  -- where the place is one of those that there were, the name was known
+  -- where the index is one of those that there were, the name was known
   known_at : (i : ℕ) → place tasks t ≡ Some i → i < length rows → is_known before t ≡ true
   known_at i here w = at (is_known before t) refl
     where
@@ -120,7 +120,7 @@ module _ (tasks before : Waiting) (rows : List (Option Row)) (p : AreInPlace bef
         at false h = h
         at true h = absurd (some (place tasks t) refl (ap (λ ks. is_some (position (same_name t) ks)) (same_keys h) ∙ known_place before t h) h)
 
-    -- so there is room for its row
+    -- so there is capacity for its row
     pub room_left : (room : ℕ) → HasPlaceOrRoom before t room → 0 < room
     room_left room can = ⊎_elim (λ some. absurd (false≢true (sym (ap is_some (unknown_place before t new_name)) ∙ some))) (λ left. left) can
 
@@ -163,7 +163,7 @@ module _ (tasks before : Waiting) (rows : List (Option Row)) (p : AreInPlace bef
             row_here tasks (rows ++ Some r ∷ []) placed_last u j (ap (position (same_name u)) (more_keys new_name) ∙ grown (same_name u) (keys_of before) t j e)
             ∙ pushed_in j (within before rows p u j e) ∙ sym (row_here before rows p u j e) ∙ sym (ap (λ b. cond b (Some r) (row (rows_in rows) u)) h)
 
--- the root's row stands at the first place
+-- the root's row is at the first index
 pub placed_root : (r : Row) → r.holders.parent ≡ [] → (tasks : Waiting) → keys_of tasks ≡ [] ∷ [] → AreInPlace tasks (Some r ∷ [])
 placed_root r own tasks keys = record {
   count = sym (sym (length-map tasks (λ e. e.0)) ∙ ap length keys);
@@ -174,7 +174,7 @@ placed_root r own tasks keys = record {
     at zero q e = let same : r ≡ q = cc in ap (λ ks. position (same_name q.holders.parent) ks) keys ∙ ap (λ t. position (same_name t) ([] ∷ [])) (ap (λ (x : Row). x.holders.parent) (sym same) ∙ own)
     at (suc i) q e = absurd (cc)
 
--- ---- the room for a row
+-- ---- the capacity for a row
 
 pub along_names : (a b : Waiting) (t : Name) (room : ℕ) → keys_of b ≡ keys_of a → HasPlaceOrRoom a t room → HasPlaceOrRoom b t room
 along_names a b t room e can = subst (λ ks. (is_some (position (same_name t) ks) ≡ true) ⊎ (0 < room)) (sym e) can

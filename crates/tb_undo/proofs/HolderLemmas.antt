@@ -1,4 +1,4 @@
--- Who holds what behind a step, and in front of it again.
+-- Who holds what after a step, and in front of it again.
 use Rattle.std.proofs.Common.{◌≡◌, ℕ, zero, suc, List, [], ◌∷◌, Bool, true, false, cond, ◌&&◌, refl, sym, ap, ◌∙◌, subst, arith, Option, Some, None, is_some, nat_eq, unwrap_or}
 use Rattle.std.specs.List.{list_any}
 use Rattle.std.specs.Map.{lookup}
@@ -30,7 +30,7 @@ use Rattle.tb_undo.specs.State.{known_task, task_of}
 use Rattle.tb_undo.specs.Changes.{HoldersFor, HoldersBack}
 use Rattle.tb_undo.proofs.TaskLemmas.{unacted_in, not_child}
 
--- a place that is held has room for its holder
+-- an index that is held has capacity for its holder
 held_room : (h : Holders) (place : Place) (n : ℕ) → holder h place ≡ Some n → has_room h place ≡ true
 held_room h (Cell c) n e = at (lookup (nat_eq c) h.cells) e
   where
@@ -42,7 +42,7 @@ held_room h All n e = refl
 set_room : (g h : Holders) (items : List Item) (n : ℕ) → IsSet g items (Some n) h → HasRoomFor h items
 set_room g h items n set place t = held_room h place n (set place ∙ ap (λ b. cond b (Some n) (holder g place)) t)
 
--- the items of a task are those that its parent keeps
+-- the items of a task are those that its parent retains
 pub items_kept : (first : Cells) (root_line : ℕ) (D : List Departure) (rows : Rows) → Legal first (events_of D) → ((t : Name) → task rows t ≡ task_of root_line D t)
     → (n : ℕ) (p : Name) → items_in rows (n ∷ p) ≡ items_of (n ∷ p) (events_of D)
 items_kept first root_line D rows legal tasks n p =
@@ -200,7 +200,7 @@ module _ (first : Cells) (root_line : ℕ) (D : List Departure) (t : Name) (old 
   holders_more Close legal tasks kept k = quiet_more Close refl refl legal kept k
   holders_more (Test b) legal tasks kept k = quiet_more (Test b) refl refl legal kept k
 
-  -- ---- and back: the tasks are those behind the step
+  -- ---- and back: the tasks are those after the step
 
   module _ (to : ℕ) (a : Action) (legal : Legal first (by a ∷ H)) (tasks : (u : Name) → task old u ≡ task_of root_line (record { event = by a; to = to } ∷ D) u)
       (kept : (p : Name) (h : Holders) → holders_of old p ≡ Some h → AreHolders (by a ∷ H) p h) where

@@ -1,4 +1,4 @@
--- The obstacles that are found by number are the least by name.
+-- The obstacles that are found by ordinal are the least by name.
 use Rattle.std.proofs.Common.{◌≡◌, ◌≢◌, ◌&&◌, ◌||◌, ℕ, List, [], ◌∷◌, Bool, true, false, not, Option, None, option_map, refl, sym, ap, ◌∙◌, subst, IsTrue, nat_lt, ⊎_elim}
 use Rattle.std.specs.List.{list_any}
 use Rattle.std.proofs.lemmas.Bool.{and_parts, and_from, not-true, not_from_false, both_ways, false≢true, false_from_ne_true}
@@ -109,7 +109,7 @@ module _ (cells : Cells) (H : History) (tasks : Waits) (t : Name) (legal : Legal
             let met = (and_parts (is_elder (m ∷ t) (n ∷ t)) (some_meet is_before (items_of (n ∷ t) H) (items_of (m ∷ t) H)) h).1 in
             sym (none_meet is_before (items_of (n ∷ t) H)) ∙ ap (some_meet is_before (items_of (n ∷ t) H)) (sym (no_items (m ∷ t) H e)) ∙ met
 
-    -- and so was who comes behind another
+    -- and so was who comes after another
     pub before_generated : (m : ℕ) → before H (m ∷ t) (n ∷ t) ≡ true → IsSpawned H (n ∷ t)
     before_generated m h = at (list_any (spawns (n ∷ t)) H) refl
       where

@@ -42,7 +42,7 @@ module _ (tasks : Waits) (t : Name) where
   unended_not_over zero h u = absurd (omega (arith, h))
   unended_not_over (suc k) h u = ap is_kin_over u.1.1 ∙ u.1.2
 
-  -- a child of which it is told whether it is unended
+  -- a child of which it is known whether it is unended
   pub known_over : (n : ℕ) → 0 < n → (b : Bool) → (b ≡ true → IsUnendedChild tasks t (child t n)) → (b ≡ false → IsUnendedChild tasks t (child t n) → ⊥) → not b ≡ is_child_over tasks t n
   known_over n h true there gone = sym (unended_not_over n h (there refl))
   known_over n h false there gone = by (is_child_over tasks t n) refl
@@ -59,7 +59,7 @@ module _ (tasks : Waits) (t : Name) where
         (all m (sym (ap (λ b. b || some_meet is_before items (items_at siblings m)) some) ∙ u.passes)));
   }
 
-  -- the next unended child tells whether this one is over
+  -- the next unended child says whether this one is over
   pub over_by_next : (n low : ℕ) (o : Option ℕ) → IsNextUnended tasks t low o → low < n → ((m : ℕ) → o ≡ Some m → n ≤ m) → ((m : ℕ) → o ≡ Some m → m ≢ n) → is_child_over tasks t n ≡ true
   over_by_next n low o next above within other = at (is_child_over tasks t n) refl
     where
@@ -71,7 +71,7 @@ module _ (tasks : Waits) (t : Name) where
           let same : it.0 ≡ n = omega (arith, far, it.2) in
           absurd (other it.0 it.1 same)
 
-  -- where there is no next one, all behind are over
+  -- where there is no next one, all after are over
   pub told_none : (n low : ℕ) (o : Option ℕ) → IsNextUnended tasks t low o → o ≡ None → low ≤ n - 1 → true ≡ is_child_over tasks t n
   told_none zero low o next e h = refl
   told_none (suc k) low o next e h = sym (over_by_next (suc k) low o next (omega (arith, h)) (λ m f. none m f) (λ m f. absurd (none m f)))
@@ -107,7 +107,7 @@ module _ (tasks : Waits) (t : Name) where
           ap not f ∙ sym (unended_not_over n (omega (arith, after, here)) (subst (λ j. IsUnendedChild tasks t (child t j)) here (next.found m e).1))
       at false f = ap not f ∙ behind n refl f
 
--- the number, as far as 32 bits reach
+-- the ordinal, as far as 32 bits reach
 pub clamped : {E : Type 0} (r : Result ℕ E) (v low : ℕ) → OkIff r (v < 4294967296) v → low ≡ result_unwrap_or r 4294967295 → (low ≤ v) × ((low ≡ v) ⊎ (low ≡ 4294967295))
 clamped (Ok x) v low k e = let same : low ≡ v = e ∙ k.1 in (omega (arith, same), inl same)
 clamped (Err x) v low k e = elim (cases_lt v 4294967296) [
@@ -116,7 +116,7 @@ clamped (Err x) v low k e = elim (cases_lt v 4294967296) [
 ]
 
 module _ (cells : Cells) (H : History) (tasks : Waits) (t : Name) (legal : Legal cells H) (are : AreKin H tasks) where
-  -- a child that has ended started behind the ends of those before it
+  -- a child that has ended started after the ends of those before it
   ended_behind : (m n : ℕ) → before H (m ∷ t) (n ∷ t) ≡ true → HasEnded H (n ∷ t) → HasEnded H (m ∷ t)
   ended_behind m n b e =
       let acted : own (n ∷ t) H ≢ [] = λ none. not_started (n ∷ t) H (ends (n ∷ t)) (λ v s. (and_parts (is_of (n ∷ t) v) (is_end v.action) s).0) none e in

@@ -1,4 +1,4 @@
--- The row of a task stands at its name's place.
+-- The row of a task is at its name's index.
 use Rattle.std.proofs.Common.{◌≡◌, ◌≢◌, ◌<◌, ◌==◌, ℕ, zero, suc, Bool, true, false, cond, List, [], ◌∷◌, Option, Some, None, option_map, length, get_or, set, refl, sym, ap, ◌∙◌, subst, arith, eqb-true, eq-eqb}
 use Rattle.std.specs.Prelude.{position}
 use Rattle.std.specs.Map.{keys_of}
@@ -16,7 +16,7 @@ use Rattle.tb_undo.proofs.RowsLemmas.{Writes, changed, kept, absent}
 pub some_is : {A : Type 0} {x y : A} → Some x ≡ Some y → x ≡ y
 some_is e = cc
 
--- a row that is found by a name stands at a place
+-- a row that is found by a name is at an index
 stands : (rows : List (Option Row)) (t : Name) (r : Row) → row (rows_in rows) t ≡ Some r → (i : ℕ) × (row_at rows i ≡ Some r) × (t ≡ r.holders.parent)
 stands [] t r e = absurd (cc)
 stands (None ∷ rows) t r e = let s = stands rows t r e in (suc s.0, s.1, s.2)
@@ -29,7 +29,7 @@ stands (Some q ∷ rows) t r e = at (stands rows t r) (same_name t q.holders.par
         (0, ap Some same, same_true t q.holders.parent h ∙ ap (λ (x : Row). x.holders.parent) same)
     at rest false h = let s = rest (sym (ap (λ b. cond b (Some q) (row (rows_in rows) t)) h) ∙ e) in (suc s.0, s.1, s.2)
 
--- a row that stands at a place is found by its name, or another of the same name
+-- a row that is at an index is found by its name, or another of the same name
 is_found : (rows : List (Option Row)) (i : ℕ) (r : Row) → row_at rows i ≡ Some r → (q : Row) × (row (rows_in rows) r.holders.parent ≡ Some q)
 is_found [] i r e = absurd (cc)
 is_found (None ∷ rows) zero r e = absurd (cc)
@@ -43,7 +43,7 @@ is_found (Some q ∷ rows) (suc i) r e = at (is_found rows i r e) (same_name r.h
     at f true h = (q, ap (λ b. cond b (Some q) (row (rows_in rows) r.holders.parent)) h)
     at f false h = (f.0, ap (λ b. cond b (Some q) (row (rows_in rows) r.holders.parent)) h ∙ f.1)
 
--- two names at one place are one
+-- two names at one index are one
 one_name : (ks : List Name) (t u : Name) (i : ℕ) → position (same_name t) ks ≡ Some i → position (same_name u) ks ≡ Some i → t ≡ u
 one_name ks t u i e f = same_true t (get_or ks i []) (position-Some (same_name t) ks i [] e).1 ∙ sym (same_true u (get_or ks i []) (position-Some (same_name u) ks i [] f).1)
 
@@ -51,7 +51,7 @@ module _ (tasks : Waiting) (rows : List (Option Row)) (p : AreInPlace tasks rows
   pub within : (t : Name) (i : ℕ) → place tasks t ≡ Some i → i < length rows
   within t i e = omega (arith, (position-Some (same_name t) (keys_of tasks) i [] e).0, length-map tasks (λ e. e.0), p.count)
 
-  -- the row that a name finds is the one at its place
+  -- the row that a name finds is the one at its index
   pub row_here : (t : Name) (i : ℕ) → place tasks t ≡ Some i → row (rows_in rows) t ≡ row_at rows i
   row_here t i e = at (row_at rows i) refl
     where
@@ -80,7 +80,7 @@ module _ (tasks : Waiting) (rows : List (Option Row)) (p : AreInPlace tasks rows
       at None f = f
       at (Some r) f = let s = stands rows t r f in let clash : None ≡ Some s.0 = sym e ∙ ap (place tasks) s.2 ∙ p.placed s.0 r s.1 in absurd (cc)
 
--- what comes to stand at a place is found by the place's name, and nothing else changes
+-- what comes to be at an index is found by the index's name, and nothing else changes
 module _ (tasks : Waiting) (rows : List (Option Row)) (p : AreInPlace tasks rows) (t : Name) (i : ℕ) (here : place tasks t ≡ Some i) (x : Option Row) (own : (q : Row) → x ≡ Some q → q.holders.parent ≡ t) where
   pub placed_after : AreInPlace tasks (set rows i x)
   placed_after = record { count = length-set rows i x ∙ p.count; placed = λ j q e. at j q e (j == i) refl }
@@ -104,7 +104,7 @@ module _ (tasks : Waiting) (rows : List (Option Row)) (p : AreInPlace tasks rows
           let other : j ≢ i = λ y. false≢true (sym h ∙ subst (λ v. same_name t v ≡ true) (one_name (keys_of tasks) t u i here (e ∙ ap Some y)) (same_refl t)) in
           row_here tasks (set rows i x) placed_after u j e ∙ get_or-set_other rows i j x None other ∙ sym (row_here tasks rows p u j e) ∙ sym (ap (λ b. cond b x (row (rows_in rows) u)) h)
 
--- what stands at the place of t, as a body reads it there and writes it back
+-- what is at the index of t, as a body reads it there and writes it back
 module _ (tasks : Waiting) (rows : List (Option Row)) (p : AreInPlace tasks rows) (t : Name) (i : ℕ) (here : place tasks t ≡ Some i) (x : Option Row) (value : x ≡ get_or rows i x) where
   read : row (rows_in rows) t ≡ x
   read = row_here tasks rows p t i here ∙ get_or_default rows i None x (within tasks rows p t i here) ∙ sym value
@@ -141,7 +141,7 @@ module _ (tasks : Waiting) (rows : List (Option Row)) (p : AreInPlace tasks rows
     pub holds_as_before : (p : Name) → holders_of (rows_in (set rows i (Some w))) p ≡ holders_of (rows_in rows) p
     holds_as_before = kept (rows_in rows) (rows_in (set rows i (Some w))) t r w (found r is) all_writes (λ (y : Row). y.holders) same
 
-  -- where no row stands there is none to change
+  -- where no row is there is none to change
   pub steps_nowhere : (f : Task → Task) → x ≡ None → (u : Name) → task (rows_in (set rows i x)) u ≡ cond (same_name t u) (option_map f (task (rows_in rows) u)) (task (rows_in rows) u)
   steps_nowhere f is =
       subst (λ rs. (u : Name) → task (rows_in rs) u ≡ cond (same_name t u) (option_map f (task (rows_in rows) u)) (task (rows_in rows) u)) (sym same_rows)

@@ -129,7 +129,7 @@ module _ (cells : Cells) (H : History) (t : Name) (legal : Legal cells H) where
     apart_told m =
         ap (λ cs. excludes cs n m) nth.named ∙ excludes_spawned (own (drop 1 t) H) m n ∙ sym (apart_at cells H (drop 1 t) m n legal) ∙ sym (ap (apart H (sibling t m)) nth.name)
 
-  -- who has no items has nobody before it, and nobody apart
+  -- who has no items has nobody before it, and nobody that excludes it
   module _ (none : items_of t H ≡ []) (m : ℕ) where
     never : (b : Bool) → (b && false) ≡ false
     never true = refl

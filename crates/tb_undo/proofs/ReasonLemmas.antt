@@ -1,4 +1,4 @@
--- What keeps a task from an action, from the least of each kind.
+-- What blocks a task's action, from the least of each kind.
 use Rattle.std.proofs.Common.{◌≡◌, ◌↔◌, List, Bool, true, false, not, Option, Some, None, is_some, option_map, refl, sym, ◌∙◌, subst, IsTrue}
 use Rattle.std.proofs.lemmas.Bool.{false≢true}
 use Rattle.tb_model.specs.declared.item.Item.{Item}
@@ -29,7 +29,7 @@ module _ (H : History) (t : Name) where
     pub waits : (u : Name) → IsLeast (is_waited_for H t) (Some u) → in_the_way H t Start ≡ Some (Waiting u)
     waits u l = (in_the_way_hinders H t Start (Waiting u)).1 (free, refl, l)
 
-    -- nothing keeps the task where there is nobody for whom this action waits
+    -- nothing blocks the task where there is nobody for whom this action waits
     none_by : (a : Action) → (a ≡ Start → IsLeast (is_waited_for H t) None × IsLeast (is_excluding H t) None) → ((items : List Item) → a ≡ Wait items → IsLeast (is_unended_covered H t items) None) → (a ≡ Close → IsLeast (is_unended_member H t) None)
         → in_the_way H t a ≡ None
     none_by a starts waits closes = kept_by_none H t a at
@@ -55,7 +55,7 @@ module _ (H : History) (t : Name) where
     closes_when (Some u) l = (in_the_way_hinders H t Close (Group u)).1 (free, refl, l)
     closes_when None l = none_by Close (λ e. cc) (λ items e. cc) (λ e. l)
 
-    -- nothing else keeps a task
+    -- nothing else blocks a task
     pub goes_on : (a : Action) → (a ≡ Start → ⊥) → ((items : List Item) → a ≡ Wait items → ⊥) → (a ≡ Close → ⊥) → in_the_way H t a ≡ None
     goes_on a not_start not_wait not_close = none_by a (λ e. absurd (not_start e)) (λ items e. absurd (not_wait items e)) (λ e. absurd (not_close e))
 

@@ -1,4 +1,4 @@
--- What a step replaced is the same behind the history that is left without it.
+-- What a step replaced is the same after the history that is left without it.
 use Rattle.std.proofs.Common.{◌≡◌, ℕ, List, [], ◌∷◌, ◌++◌, Bool, true, false, cond, ◌==◌, refl, sym, ap, ap₂, ◌∙◌, subst, ℤ, Option, Some, eq-eqb, eqb-true}
 use Rattle.std.proofs.lemmas.Bool.{false≢true, or_parts}
 use Rattle.tb_model.specs.declared.action.Action.{Action}
@@ -98,7 +98,7 @@ legal_front : (first : Cells) (later D : List Departure) → Legal first (events
 legal_front first [] D l = l
 legal_front first (e ∷ later) D l = legal_front first later D l.0
 
--- what the step replaced where it stands is what it replaces at the end
+-- what the step replaced where it was is what it replaces at the end
 pub record_kept : (first : Cells) (root_line : ℕ) (later front : List Departure) (d : Departure) (r : Replaced) (s : Seen) → Precedes first root_line later front d r s
     → r ≡ replaced_for first root_line (later ++ front) d.event
 record_kept first root_line later front d r s p =

@@ -4,7 +4,7 @@ use Rattle.std.proofs.Math.Seq.{take-append-add}
 use Rattle.std.proofs.lemmas.List.{drop-replicate, take-replicate}
 use Rattle.tb_model.specs.Program.{zero_ℤ}
 
--- what is left of sixteen zeros behind the arguments
+-- what is left of sixteen zeros after the arguments
 pub padded : (args : List ℤ) → length args ≤ 16 → args ++ drop (length args) (replicate 16 zero_ℤ) ≡ take 16 (args ++ replicate 16 zero_ℤ)
 padded args h =
     let zeros = replicate 16 zero_ℤ in

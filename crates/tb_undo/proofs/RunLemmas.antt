@@ -1,4 +1,4 @@
--- A run of the root with one cell: its start and a store, which is taken back and taken again.
+-- A run of the root with one cell: its start and a store, which is taken back and executed again.
 use Rattle.std.proofs.Common.{◌≡◌, ◌<◌, List, [], ◌∷◌, refl, sym, subst, ℤ, IsTrue, arith}
 use Rattle.std.proofs.lemmas.Bool.{false≢true}
 use Rattle.tb_model.specs.declared.action.Action.TheVariants.{Start, Store}

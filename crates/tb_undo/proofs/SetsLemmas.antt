@@ -19,7 +19,7 @@ all_kept : (h : Holders) → KeepsRoom h h
 all_kept h = record { parent = refl; room = λ q there. there }
 
 module _ (old : Rows) (p : Name) (r : Row) (found : row old p ≡ Some r) where
-  -- the room of p is that of its row
+  -- the capacity of p is that of its row
   pub room_here : (n : ℕ) → HasSetRoom old (n ∷ p) → HasRoomFor r.holders (items_at r.children.siblings n)
   room_here n room =
       subst (HasRoomFor r.holders) (ap (λ o. items_at (children_in (option_map seen_row o)) n) found)
@@ -50,7 +50,7 @@ module _ (old new : Rows) (p : Name) (r w : Row) (found : row old p ≡ Some r) 
           (subst (λ x. IsSet r.holders (items_in old (n ∷ p)) to x × KeepsRoom r.holders x) holders
           (subst (λ x. IsSet r.holders x to w.holders) (sym items) set, keeps)))
 
-  -- no task loses its room for a child
+  -- no task loses its capacity for a child
   pub rooms_kept : KeepsRowRoom r w → (q : Name) (items : List Item) (deferred : Bool) → HasChildRoomIn old q items deferred → HasChildRoomIn new q items deferred
   rooms_kept keeps q items deferred room x e = at (same_name p q) refl
     where
@@ -61,7 +61,7 @@ module _ (old new : Rows) (p : Name) (r w : Row) (found : row old p ≡ Some r) 
           subst (λ y. HasChildRoom y items deferred) (ap (λ o. unwrap_or o x) is) (keeps items deferred (room r there))
       at false s = room x (sym (writes q ∙ ap (λ b. cond b (Some w) (row old q)) s) ∙ e)
 
-  -- more room at p
+  -- more capacity at p
   pub reserves : seen_row w ≡ seen_row r → IsSame r.holders w.holders → KeepsRoom r.holders w.holders → KeepsRowRoom r w → Reserves old new
   reserves same holds keeps rooms = record {
     tasks = kept old new p r w found writes seen_row same;
@@ -89,13 +89,13 @@ module _ (old new : Rows) (p : Name) (r w : Row) (found : row old p ≡ Some r) 
       subst (λ x. HasRoomFor x (items_in new (n ∷ p))) holders
       (subst (HasRoomFor w.holders) (sym (ap (λ o. items_at (children_in (option_map seen_row o)) n) wrote)) room)
 
-  -- and so is the room for a child
+  -- and so is the capacity for a child
   pub child_room_there : (items : List Item) (deferred : Bool) → HasChildRoom w items deferred → HasChildRoomIn new p items deferred
   child_room_there items deferred room r e =
       let wrote = writes p ∙ ap (λ b. cond b (Some w) (row old p)) (same_refl p) in
       subst (λ x. HasChildRoom x items deferred) (ap (λ o. unwrap_or o r) (sym wrote ∙ e)) room
 
--- ---- where the parent's row stands
+-- ---- where the parent's row is
 
 pub record Placed (tasks : Waiting) (t : Name) (i n : ℕ) : Type 0 where
   pub parent : Name
@@ -171,6 +171,6 @@ reserves_row old new t r w found writes same holders rooms = record {
       subst (λ o. Become o (λ f. IsSame f h × KeepsRoom f h)) (sym (sym stays ∙ e)) ((λ place. refl), all_kept h);
 }
 
--- a task that isn't there asks for no room
+-- a task that isn't there asks for no capacity
 pub no_child_room : (rows : Rows) (t : Name) (items : List Item) (deferred : Bool) → row rows t ≡ None → HasChildRoomIn rows t items deferred
 no_child_room rows t items deferred none r e = let clash : None ≡ Some r = sym none ∙ e in absurd (cc)

@@ -1,4 +1,4 @@
--- What the tables of a history tell of one task: its own part, and what keeps it from its start.
+-- What the tables of a history say of one task: its own part, and what blocks its start.
 use Rattle.std.proofs.Common.{◌≡◌, ◌<◌, ◌≤◌, ◌&&◌, ℕ, List, [], ◌∷◌, true, false, cond, not, Option, Some, None, option_map, drop, length, slice_get, is_some, IsTrue, refl, sym, ap, ◌∙◌, subst, arith}
 use Rattle.std.specs.List.{list_any}
 use Rattle.std.proofs.lemmas.Bool.{and_parts, false≢true}
@@ -36,7 +36,7 @@ module _ (first : Cells) (root_line : ℕ) (D : List Departure) (s : Seen) (lega
   abbrev H : History
   H = events_of D
 
-  -- the task's own part is kept
+  -- the task's own part is stored
   pub known : (t : Name) (r : Row) → IsSpawned H t → row s.rows t ≡ Some r → seen_row r ≡ known_task root_line D t
   known t r spawned e =
       let is : Some (seen_row r) ≡ Some (known_task root_line D t) =
@@ -123,7 +123,7 @@ module _ (first : Cells) (root_line : ℕ) (D : List Departure) (s : Seen) (lega
     steps : r.steps ≡ length (own t H)
     steps = (is_known t r (was_spawned t unended) mine).steps
 
-    -- the number of a sibling names it
+    -- the ordinal of a sibling names it
     sibling_name : (m : ℕ) → m ∷ p ≡ sibling t m
     sibling_name m = ap (λ u. sibling u m) (sym name)
 
@@ -142,7 +142,7 @@ module _ (first : Cells) (root_line : ℕ) (D : List Departure) (s : Seen) (lega
         subst (λ u. IsLeast (is_excluding H u) (option_map (child p) b)) (sym name)
         (excluding_least first H p n legal here q.holders q.children.siblings b (not_begun few) (state.holders p q.holders (ap (option_map (λ (r : Row). r.holders)) found)) parent_known.children l)
 
-    -- who is excluded is kept back, also where something else is in the way first
+    -- who is excluded is held back, also where something else is in the way first
     pub keeps_excluded : (b : Option ℕ) → IsTrue (is_some b) → r.steps ≡ 0 → IsLeastNumber (Excludes q.holders (items_at q.children.siblings n)) b → in_the_way H t Start ≡ None → ⊥
     keeps_excluded None some e x none = absurd (false≢true some)
     keeps_excluded (Some m) some e x none =

@@ -1,4 +1,4 @@
--- The state at the beginning, and where only room has changed.
+-- The state at the beginning, and where only capacity has changed.
 use Rattle.std.proofs.Common.{◌≡◌, ◌<◌, ◌↔◌, ℕ, List, [], ◌∷◌, ◌++◌, IsTrue, Bool, true, cond, length, refl, sym, ap, ◌∙◌, subst, ℤ, Option, Some, None, unwrap_or}
 use Rattle.std.proofs.lemmas.Option.{unwrap_or-slice_get}
 use Rattle.tb_model.specs.Names.{Name, same_name}
@@ -54,7 +54,7 @@ first_state first root_line s cells output kins tasks comes = record {
     at [] = refl
     at (n ∷ t) = refl
 
--- ---- where only room has changed
+-- ---- where only capacity has changed
 
 pub same_tables : (s : Seen) → AreSame s s
 same_tables s = record { cells = refl; output = refl; waits = λ u. refl; marks = refl; rows = reserves_none s.rows }
@@ -124,7 +124,7 @@ is_without old new v r k first root_line later front to p =
     let there = at_end first root_line later front d r old p in
     reverted_newest first root_line (later ++ front) d r old new there.legal (record_kept first root_line later front d r old p) there.state k
 
--- what the change tells is what the event replaces
+-- what the change says is what the event replaces
 pub is_record : (old mid : Seen) (v : Event) (r : Replaced) → AreSame old mid → ((k : Task) → task mid.rows v.task ≡ Some k → r ≡ replaced_in v.action mid.store.cells k) → IsRecord old v r
 is_record old mid v r a told first root_line D f =
     let H = events_of D in
@@ -136,9 +136,9 @@ is_record old mid v r a told first root_line D f =
     made : Option ℤ → Replaced
     made x = record { number = x; reg = register_by v.action; at = (known_task root_line D v.task).at }
 
--- ---- room, and the copies of names
+-- ---- capacity, and the copies of names
 
--- but for a printed value, the room for an event is that among the tasks
+-- the capacity for an event is that among the tasks, but for a printed value
 pub tasks_room : (s : Seen) (t : Name) (a : Action) → HasRoomOf s t a → HasTaskRoomOf s t a
 tasks_room s t Start h = h
 tasks_room s t (Spawn x) h = h

@@ -1,4 +1,4 @@
--- Cells, output and registers behind a step, and in front of it again.
+-- Cells, output and registers after a step, and in front of it again.
 use Rattle.std.proofs.Common.{◌≡◌, ◌<◌, ◌-◌, ℕ, List, [], ◌∷◌, ◌++◌, Bool, true, false, ◌==◌, cond, length, refl, sym, ap, ◌∙◌, subst, ℤ, arith, Option, Some, reverse, take, set, get_or, eq-eqb, eqb-true}
 use Rattle.std.proofs.lemmas.Bool.{both_ways}
 use Rattle.std.proofs.lemmas.List.{length-set, get_or-set_same, get_or-set_other, reverse-append, length-append, set-get_or}
@@ -17,7 +17,7 @@ use Rattle.tb_undo.specs.Tasks.{written, registers_back}
 use Rattle.tb_undo.specs.State.{AreLast, registers}
 use Rattle.tb_undo.specs.Changes.{cells_by, output_by, cells_back, output_back, number_over}
 
--- the registers that are kept are those of the definitions
+-- the registers that are stored are those of the definitions
 nowhere : Program
 nowhere = record { cells = []; bodies = []; lines = []; root_line = 0 }
 
@@ -125,7 +125,7 @@ output_less H t (Test b) = refl
 output_less H t End = refl
 output_less H t Fault = refl
 
--- the old number in place of the new one
+-- the old value in place of the new one
 number_back : (regs : List ℤ) (r : ℕ) (x : ℤ) (number : Option ℤ) → number ≡ Some (get_or regs r zero_ℤ) → with_number (set regs r x) r number ≡ regs
 number_back regs r x number e = ap (with_number (set regs r x) r) e ∙ set-set regs r x (get_or regs r zero_ℤ) ∙ set-get_or regs r zero_ℤ
 
@@ -145,7 +145,7 @@ number_right first H t (Test b) cells k l = refl
 number_right first H t End cells k l = refl
 number_right first H t Fault cells k l = refl
 
--- the registers have their old numbers again
+-- the registers have their old values again
 pub registers_less : (first : Cells) (H : History) (t : Name) (a : Action) (number : Option ℤ) → Continues first t (own t H) a → number ≡ replaced_by first H (record { task = t; action = a })
     → registers_back a number (written a (registers (args_in (spawn_of t H)) (own t H))) ≡ registers (args_in (spawn_of t H)) (own t H)
 registers_less first H t (Let r x) number k e =

@@ -1,4 +1,4 @@
--- The tasks' own parts behind a step, and in front of it again.
+-- The tasks' own parts after a step, and in front of it again.
 use Rattle.std.proofs.Common.{◌≡◌, ◌-◌, ℕ, suc, List, [], ◌∷◌, Bool, true, false, cond, ◌||◌, length, refl, sym, ap, ap₂, ◌∙◌, subst, ℤ, arith, Option, Some, None, drop}
 use Rattle.std.specs.Option.{option_map}
 use Rattle.std.proofs.lemmas.Bool.{false≢true}
@@ -250,7 +250,7 @@ module _ (first : Cells) (root_line : ℕ) (D : List Departure) (d : Departure) 
       at true = refl
       at false = refl
 
-  -- each task behind the step
+  -- each task after the step
   pub task_more : (u : Name) → task_of root_line (d ∷ D) u ≡ task_by v d.to (task_of root_line D) u
   task_more u = by_spawn (is_spawn_of u v.action) refl (is_of u v) refl
     where

@@ -212,7 +212,7 @@ last_spawn first H s t (Test b) l k = tt
 last_spawn first H s t End l k = tt
 last_spawn first H s t Fault l k = tt
 
--- what an end freed has its room
+-- what an end freed has its capacity
 end_room : (first : Cells) (root_line : ℕ) (D : List Departure) (d : Departure) (s : Seen) → Legal first (d.event ∷ events_of D) → IsTaskState root_line (d ∷ D) s → IsTrue (ends d.event.task d.event) → HasSetRoom s.rows d.event.task
 end_room first root_line D d s l k e p h c g = at d.event.task refl c
   where
@@ -284,7 +284,7 @@ pub map_events : (C D : List Departure) → events_of (C ++ D) ≡ events_of C +
 map_events [] D = refl
 map_events (d ∷ C) D = ap (λ H. d.event ∷ H) (map_events C D)
 
--- the step at its place and at the end are the same
+-- the step at its index and at the end are the same
 pub record AtEnd (first : Cells) (root_line : ℕ) (later front : List Departure) (d : Departure) (s : Seen) : Type 0 where
   pub legal : Legal first (d.event ∷ events_of (later ++ front))
   pub state : IsState first root_line (d ∷ (later ++ front)) s

@@ -1,4 +1,4 @@
--- The undeferred child at which a task stands: where it is told, and that it is the last child.
+-- The undeferred child for which a task waits: where it is known, and that it is the last child.
 use Rattle.std.proofs.Common.{◌≡◌, ◌<◌, ◌≤◌, ◌-◌, ◌==◌, ℕ, suc, List, [], ◌∷◌, Bool, true, false, not, ◌&&◌, cond, Option, Some, None, option_map, length, refl, sym, ap, ap₂, ◌∙◌, subst, arith, eq-eqb, eqb-true}
 use Rattle.std.specs.List.{list_any}
 use Rattle.std.proofs.lemmas.Bool.{and_parts, and_from, both_ways, false≢true}
@@ -21,9 +21,9 @@ use Rattle.tb_undo.specs.Tasks.{Task}
 use Rattle.tb_undo.specs.State.{undeferred_at}
 use Rattle.tb_undo.specs.Obstacles.{is_first, IsKnown}
 
--- ---- the undeferred child at which a task stands
+-- ---- the undeferred child for which a task waits
 
--- no step behind the last generated one
+-- no step after the last generated one
 none_beyond : (acts : List Action) (n : ℕ) → length acts < n → is_first n (undeferred_at acts) ≡ false
 none_beyond [] n l = refl
 none_beyond (Spawn s ∷ acts) n l = by s.deferred (none_beyond acts n (omega (arith, l)))
@@ -65,7 +65,7 @@ held_names : (cells : Cells) (t u : Name) (a : Action) (acts : List Action) → 
 held_names cells t u (Spawn s) acts k h = sym (same_true s.child u (and_parts (not s.deferred) (same_name s.child u) h).1) ∙ k.1
 held_names cells t u a acts k h = absurd (false≢true h)
 
--- it is the last one
+-- the undeferred child for which a task waits is its last one
 held_last : (cells : Cells) (H : History) (t u : Name) → Legal cells H → holds (own t H) u ≡ true → u ≡ spawn_count (own t H) ∷ t
 held_last cells [] t u l h = absurd (false≢true h)
 held_last cells (v ∷ H) t u l h = at (held_last cells H t u l.0) (is_of t v) refl h

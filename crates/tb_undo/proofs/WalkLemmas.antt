@@ -48,7 +48,7 @@ module _ (tasks : Waits) (t : Name) (test : ℕ → Bool) (low : ℕ) (so_far : 
       least n u (inl a) = next.least n a u.unended
       least n u (inr b) = absurd (both_ways (test n) (so_far.none n u.from_one b u.unended) u.passes)
 
-  -- from n on no number passes
+  -- from n on no ordinal passes
   pub none_behind : (m n : ℕ) → IsNextUnended tasks t low (Some m) → n ≤ m → ((k : ℕ) → n ≤ k → test k ≡ false) → IsLeastNumber (IsUnendedWhere tasks t test) None
   none_behind m n next le fails = record { found = λ k e. cc; least = λ k u. least k u (cases_lt low k) }
     where

@@ -21,17 +21,17 @@ use Rattle.tb_undo.specs.State.{Seen}
 
 -- ---- cells and output
 
--- the cells behind the action
+-- the cells after the action
 abbrev pub cells_by : Action → List ℤ → List ℤ
 cells_by (Store c x) cells = slice_set cells c x
 cells_by _ cells = cells
 
--- the output behind it
+-- the output after it
 abbrev pub output_by : Action → List ℤ → List ℤ
 output_by (Print x) output = output ++ x ∷ []
 output_by _ output = output
 
--- the cells in front of the action, by the number that it replaced
+-- the cells in front of the action, by the value that it replaced
 abbrev pub cells_back : Action → Option ℤ → List ℤ → List ℤ
 cells_back (Store c x) number cells = with_number cells c number
 cells_back _ number cells = cells
@@ -41,12 +41,12 @@ abbrev pub output_back : Action → List ℤ → List ℤ
 output_back (Print x) output = take (length output - 1) output
 output_back _ output = output
 
--- the number that the action writes over in the cells
+-- the value that the action writes over in the cells
 abbrev pub cell_over : Action → List ℤ → Option ℤ
 cell_over (Store c x) cells = Some (number_at cells c)
 cell_over _ cells = None
 
--- the number that it writes over in the cells or in the registers
+-- the value that it writes over in the cells or in the registers
 abbrev pub number_over : Action → List ℤ → List ℤ → Option ℤ
 number_over (Store c x) cells regs = Some (number_at cells c)
 number_over a cells regs = register_over a regs
@@ -67,7 +67,7 @@ abbrev pub with_task : Name → Action → (Name → Option Task) → Name → O
 with_task p (Spawn s) f u = if same_name s.child u then Some (fresh_task p s.body s.args) else f u
 with_task p _ f u = f u
 
--- the tasks behind the event, which leaves its task at this line
+-- the tasks after the event, which leaves its task at this line
 abbrev pub task_by : Event → ℕ → (Name → Option Task) → Name → Option Task
 task_by v to f u = if is_of u v then option_map (advanced v.action to) (with_task v.task v.action f u) else with_task v.task v.action f u
 
@@ -91,7 +91,8 @@ HoldersFor t Fault old new = Holds old t None new
 HoldersFor t (Spawn s) old new = Founds old s.child new
 HoldersFor t _ old new = (p : Name) → holders_of new p ≡ holders_of old p
 
--- an undone start frees what it took, an undone end takes it again, and of an undone spawn's child nothing is kept
+-- an undone start frees what it took, an undone end takes it again, and of an undone spawn's child
+-- nothing is stored
 abbrev pub HoldersBack : Name → Action → Rows → Rows → Type 0
 HoldersBack t Start old new = Holds old t None new
 HoldersBack t End old new = Holds old t (number_of t) new
@@ -107,20 +108,20 @@ pub record IsRest (old new : Seen) : Type 0 where
   pub waits : new.waits ≡ old.waits
   pub marks : new.marks ≡ old.marks
 
--- what the tables keep of the tasks behind the event, which leaves its task at this line
+-- what the tables retain of the tasks after the event, which leaves its task at this line
 pub record ChangedTasks (v : Event) (to : ℕ) (old new : Seen) : Type 0 where
   pub waits : ChangesBy v.task v.action old.waits.tasks new.waits.tasks
   pub marks : MarkedBy v.task v.action old.marks.tasks new.marks.tasks
   pub tasks : (u : Name) → task new.rows u ≡ task_by v to (task old.rows) u
   pub holders : HoldersFor v.task v.action old.rows new.rows
 
--- the tables behind the event, which leaves its task at this line
+-- the tables after the event, which leaves its task at this line
 pub record Changed (v : Event) (to : ℕ) (old new : Seen) : Type 0 where
   pub cells : new.store.cells ≡ cells_by v.action old.store.cells
   pub output : new.store.output ≡ output_by v.action old.store.output
   pub of_tasks : ChangedTasks v to old new
 
--- the tables behind the event but for the cells, the output and the task's own step
+-- the tables after the event but for the cells, the output and the task's own step
 pub record Acted (v : Event) (old new : Seen) : Type 0 where
   pub store : new.store ≡ old.store
   pub waits : ChangesBy v.task v.action old.waits.tasks new.waits.tasks
@@ -147,7 +148,7 @@ pub record ActedBack (v : Event) (old new : Seen) : Type 0 where
   pub tasks : (u : Name) → task new.rows u ≡ without_task v.action (task old.rows) u
   pub holders : HoldersBack v.task v.action old.rows new.rows
 
--- they say what they said; only room may have grown
+-- the tables say what they said; only capacity may have grown
 pub record AreSame (old new : Seen) : Type 0 where
   pub cells : new.store.cells ≡ old.store.cells
   pub output : new.store.output ≡ old.store.output
@@ -155,7 +156,7 @@ pub record AreSame (old new : Seen) : Type 0 where
   pub marks : new.marks.tasks ≡ old.marks.tasks
   pub rows : Reserves old.rows new.rows
 
--- ---- room
+-- ---- capacity
 
 -- for the spawn of u, but for the copies of its name
 pub record HasFamilyRoom (s : Seen) (p u : Name) (items : List Item) (deferred : Bool) : Type 0 where
@@ -216,14 +217,14 @@ abbrev pub IsNextSpawn : Seen → Name → Action → Type 0
 IsNextSpawn s p (Spawn spawn) = IsNext s.waits.tasks p spawn.child × (p ≡ drop 1 spawn.child) × (length spawn.args ≤ 16) × (mark_of s.marks.tasks spawn.child ≡ None)
 IsNextSpawn s p _ = ⊤
 
--- what the tables ask for where the event is taken, but for the cell
+-- what the tables ask for where the event is applied, but for the cell
 pub record CanChangeTasks (s : Seen) (v : Event) : Type 0 where
   pub register : IsRegister v.action
   pub few : (k : Task) → task s.rows v.task ≡ Some k → k.steps < 4294967295
   pub linked : IsLinked s.rows v.task
   pub spawn : IsNextSpawn s v.task v.action
 
--- what the tables ask for where the event is taken
+-- what the tables ask for where the event is applied
 pub record CanChange (s : Seen) (v : Event) : Type 0 where
   pub cell : IsCell (length s.store.cells) v.action
   pub of_tasks : CanChangeTasks s v
@@ -233,7 +234,7 @@ abbrev pub IsLastSpawn : Seen → Name → Action → Type 0
 IsLastSpawn s p (Spawn spawn) = IsLast s.waits.tasks p spawn.child
 IsLastSpawn s p _ = ⊤
 
--- what the end of the task freed has its room
+-- what the end of the task freed has its capacity
 abbrev pub HasEndRoom : Seen → Name → Action → Type 0
 HasEndRoom s t End = HasSetRoom s.rows t
 HasEndRoom s t Fault = HasSetRoom s.rows t

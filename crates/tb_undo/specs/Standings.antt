@@ -1,8 +1,8 @@
--- Where a task stands, as a contract sees it.
+-- Where a task is, as a contract sees it.
 use Rattle.std.specs.Prelude.{ℕ, ℤ, List}
 use Rattle.tb_undo.specs.Tasks.{Task}
 
--- its line, how many steps it has taken, and its registers
+-- a task's line, how many steps it has executed, and its registers
 pub record Standing : Type 0 where
   pub at : ℕ
   pub steps : ℕ

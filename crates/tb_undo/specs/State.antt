@@ -1,4 +1,4 @@
--- What the joined tables hold of a history that keeps its lines: its state, table by table.
+-- What the joined tables hold of a history that retains its lines: its state, table by table.
 use Rattle.std.specs.Prelude.{◌≡◌, ◌<◌, ℕ, suc, ℤ, List, [], ◌∷◌, Option, Some, None, IsTrue, drop, length, reverse, if◌then◌else◌}
 use Rattle.tb_model.specs.declared.action.Action.{Action}
 use Rattle.tb_model.specs.declared.action.Action.TheVariants.{Spawn}
@@ -28,12 +28,12 @@ pub record Seen : Type 0 where
   pub row_room : ℕ
   pub copied : Option Name
 
--- the cells have the last numbers
+-- the cells have the last values
 pub record AreLast (first : Cells) (H : History) (numbers : List ℤ) : Type 0 where
   pub count : length numbers ≡ length first
   pub number : (c : ℕ) → c < length first → number_at numbers c ≡ last (first_number first c) c H
 
--- the sixteen registers of a task with these arguments behind its own actions
+-- the sixteen registers of a task with these arguments after its own actions
 abbrev pub registers : List ℤ → List Action → List ℤ
 registers args [] = first_registers args
 registers args (a ∷ acts) = written a (registers args acts)
@@ -56,18 +56,19 @@ known_task root_line D t = record {
   children = spawned_items (own t (events_of D));
 }
 
--- what is kept of t behind a history, and None where it wasn't generated
+-- what is stored of t after a history, and None where it wasn't generated
 abbrev pub task_of : ℕ → List Departure → Name → Option Task
 task_of root_line D t = if is_spawned (events_of D) t then Some (known_task root_line D t) else None
 
--- what the tables keep of the tasks is that of the history, with the root's body at this line; of cells and output it says nothing
+-- what the tables retain of the tasks is that of the history, with the root's body at this line; of
+-- cells and output it says nothing
 pub record IsTaskState (root_line : ℕ) (D : List Departure) (s : Seen) : Type 0 where
   pub waiting : AreKin (events_of D) s.waits.tasks
   pub marked : AreMarks (events_of D) s.marks.tasks
   pub tasks : (t : Name) → task s.rows t ≡ task_of root_line D t
   pub holders : (p : Name) (h : Holders) → holders_of s.rows p ≡ Some h → AreHolders (events_of D) p h
 
--- the tables are those of the history, with these first numbers, and the root's body at this line
+-- the tables are those of the history, with these first values, and the root's body at this line
 pub record IsState (first : Cells) (root_line : ℕ) (D : List Departure) (s : Seen) : Type 0 where
   pub cells : AreLast first (events_of D) s.store.cells
   pub output : s.store.output ≡ reverse (printed (events_of D))
@@ -75,7 +76,8 @@ pub record IsState (first : Cells) (root_line : ℕ) (D : List Departure) (s : S
 
 -- ---- whatever history the tables are of
 
--- this holds of its first numbers, of the line of the root's body, and of the history with the lines of its steps
+-- this holds of its first values, of the line of the root's body, and of the history with the lines
+-- of its steps
 abbrev pub ForState : Seen → (Cells → ℕ → List Departure → Type 0) → Type 0
 ForState s P = (first : Cells) (root_line : ℕ) (D : List Departure) → IsState first root_line D s → P first root_line D
 

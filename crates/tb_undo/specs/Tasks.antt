@@ -1,4 +1,5 @@
--- What is kept of each task beside the tables that tasks share: where it stands, and its children by their items.
+-- What is stored of each task besides the tables that tasks share: where it is, and its children by
+-- their items.
 use Rattle.std.specs.Prelude.{◌≡◌, ◌<◌, ◌-◌, ◌++◌, ℕ, suc, ℤ, Bool, false, List, [], ◌∷◌, Option, Some, None, take, drop, length, replicate, slice_set, slice_index_or, if◌then◌else◌, ⊤}
 use Rattle.std.specs.Map.{lookup}
 use Rattle.std.specs.Option.{option_map}
@@ -12,8 +13,9 @@ use Rattle.tb_depend.specs.Table.{HasRoomFor}
 use Rattle.tb_excl.specs.Holders.{Holders}
 use Rattle.tb_undo.specs.declared.row.Row.{Row}
 
--- a task: its parent's name, the line of its body, the line at which it stands, how many steps it has taken, its registers, at
--- which of its steps it generated an undeferred child, the newest first, and the items of each child in the order of spawning
+-- a task: its parent's name, the line of its body, the line at which it is, how many steps it has
+-- executed, its registers, at which of its steps it generated an undeferred child, the newest
+-- first, and the items of each child in the order of spawning
 pub record Task : Type 0 where
   pub parent : Name
   pub body : ℕ
@@ -27,7 +29,7 @@ pub record Task : Type 0 where
 abbrev pub Rows : Type 0
 Rows = List (Name × Row)
 
--- what is kept of t, with the rooms
+-- what is stored of t, with the capacities
 abbrev pub row : Rows → Name → Option Row
 row rows t = lookup (same_name t) rows
 
@@ -45,7 +47,7 @@ holders_of rows t = option_map (λ (r : Row). r.holders) (row rows t)
 
 -- ---- a step
 
--- the registers behind one action more
+-- the registers after one action more
 abbrev pub written : Action → List ℤ → List ℤ
 written (Let r x) regs = slice_set regs r x
 written (Load r c x) regs = slice_set regs r x
@@ -61,7 +63,7 @@ abbrev pub with_child : Action → List (List Item) → List (List Item)
 with_child (Spawn s) children = children ++ s.items ∷ []
 with_child _ children = children
 
--- the task behind its own action, which leaves it at this line
+-- the task after its own action, which leaves it at this line
 abbrev pub advanced : Action → ℕ → Task → Task
 advanced a to k = record {
   parent = k.parent;
@@ -75,7 +77,7 @@ advanced a to k = record {
 
 -- ---- and back
 
--- the registers in front of the action, by the number that it replaced
+-- the registers in front of the action, by the value that it replaced
 abbrev pub registers_back : Action → Option ℤ → List ℤ → List ℤ
 registers_back (Let r x) number regs = with_number regs r number
 registers_back (Load r c x) number regs = with_number regs r number
@@ -113,23 +115,23 @@ first_registers args = take 16 (args ++ replicate 16 zero_ℤ)
 abbrev pub fresh_task : Name → ℕ → List ℤ → Task
 fresh_task p body args = record { parent = p; body = body; at = body; steps = 0; regs = first_registers args; undeferred = []; children = [] }
 
--- ---- room
+-- ---- capacity
 
--- the row has the room for a child with these items
+-- the row has the capacity for a child with these items
 pub record HasChildRoom (r : Row) (items : List Item) (deferred : Bool) : Type 0 where
   pub siblings : HasRoomFor r.children items
   pub step : deferred ≡ false → 0 < r.undeferred.room
 
--- no room for a child is lost
+-- no capacity for a child is lost
 abbrev pub KeepsRowRoom : Row → Row → Type 0
 KeepsRowRoom old new = (items : List Item) (deferred : Bool) → HasChildRoom old items deferred → HasChildRoom new items deferred
 
--- the row has the room for this step of its task
+-- the row has the capacity for this step of its task
 abbrev pub HasRowRoom : Row → Action → Type 0
 HasRowRoom r (Spawn s) = HasChildRoom r s.items s.deferred
 HasRowRoom r _ = ⊤
 
--- the row of t has the room for such a child, where it is there
+-- the row of t has the capacity for such a child, where it is there
 abbrev pub HasChildRoomIn : Rows → Name → List Item → Bool → Type 0
 HasChildRoomIn rows t items deferred = (r : Row) → row rows t ≡ Some r → HasChildRoom r items deferred
 
@@ -139,7 +141,7 @@ IsRegister (Let r x) = r < 16
 IsRegister (Load r c x) = r < 16
 IsRegister _ = ⊤
 
--- the number that the action writes over in the registers
+-- the value that the action writes over in the registers
 abbrev pub register_over : Action → List ℤ → Option ℤ
 register_over (Let r x) regs = Some (slice_index_or regs r zero_ℤ)
 register_over (Load r c x) regs = Some (slice_index_or regs r zero_ℤ)

@@ -12,9 +12,9 @@ use std::alloc::AllocError;
 use tb_model::{Action, Event};
 
 impl Tables {
-    /// Takes the event, which leaves its task at this line, among the tasks alone: for who keeps the
-    /// values of the cells elsewhere, and no output. So `get`, `cells` and `output` say nothing of
-    /// the history after it; what is asked of tasks is answered as after `apply`.
+    /// Applies the event, which leaves its task at this line, among the tasks alone: for who stores
+    /// the values of the cells in another way, and no output. So `get`, `cells` and `output` say
+    /// nothing of the history after it; what is asked of tasks is answered as after `apply`.
     #[inline(always)]
     pub fn apply_tasks(&mut self, event: &Event, to: u32) -> Result<(), AllocError>
         requires { IsAheadOfTasks self.old event.now }
@@ -26,7 +26,7 @@ impl Tables {
         Ok(())
     }
 
-    /// Makes the room that the event needs among the tasks, and changes nothing else.
+    /// Reserves the capacity that the event needs among the tasks, and changes nothing else.
     #[inline(always)]
     pub(crate) fn reserve_tasks(&mut self, event: &Event) -> Result<(), AllocError>
         requires { CanChangeTasks self.old event.now }
@@ -48,8 +48,9 @@ impl Tables {
         }
     }
 
-    /// Takes the event among the tasks, in the room that is there: the cells and the output stay.
-    /// Returns the value that it writes over in a register, and the line at which its task stood.
+    /// Applies the event among the tasks, in the capacity that is there: the cells and the output
+    /// stay. Returns the value that it writes over in a register, and the line at which its task
+    /// was.
     #[inline(always)]
     pub(crate) fn change_tasks(&mut self, event: &Event, to: u32) -> (Option<i64>, u32)
         requires can { CanChangeTasks self.old event.now }

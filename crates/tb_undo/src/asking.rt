@@ -1,4 +1,4 @@
-//! What keeps a task from an action.
+//! What blocks a task's action.
 
 ghost use Rattle.std.specs.Prelude.{◌≡◌, ◌≢◌, ◌↔◌, Some, None, IsTrue, option_map};
 ghost use Rattle.tb_model.specs.declared.action.Action.TheVariants.{Start};
@@ -22,8 +22,8 @@ use tb_model::{Action, TaskName};
 use tb_wait::Wait;
 
 impl Tables {
-    /// What keeps the task, of which it was asked where it stands, from the action: the undeferred child at which it stands,
-    /// else what the action waits for. Takes no memory.
+    /// What blocks the action of the task, of which it was asked where it is: the undeferred child
+    /// for which it waits, else what the action waits for. Takes no memory.
     #[inline(always)]
     pub fn in_the_way(
         &self,
@@ -36,8 +36,8 @@ impl Tables {
         self.in_the_way_near(standing.row_place(), name, action)
     }
 
-    /// What keeps the task from the action: the undeferred child at which it stands, else what the
-    /// action waits for. Its row is looked for at the place `near` first.
+    /// What blocks the task's action: the undeferred child for which it waits, else what the action
+    /// waits for. Its row is looked for at the index `near` first.
     #[inline(always)]
     fn in_the_way_near(&self, near: usize, name: &TaskName, action: &Action) -> Option<Obstacle<'_>>
         ensures { ForUnended self.now name.now (λ H. in_the_way H name.now action.now ≡ option_map (hindrance_by name.now) result) }
@@ -60,16 +60,16 @@ impl Tables {
         }
     }
 
-    /// Whether nothing keeps the task from the action, as `in_the_way` tells what does. Takes no
-    /// memory. Who is excluded is asked first, since it costs no walk over the siblings.
+    /// Whether nothing blocks the task's action, as `in_the_way` says what does. Takes no memory.
+    /// Who is excluded is asked first, since it costs no walk over the siblings.
     pub fn is_clear(&self, name: &TaskName, action: &Action) -> bool
         ensures { ForUnended self.now name.now (λ H. IsTrue result ↔ (in_the_way H name.now action.now ≡ None)) }
     {
         self.is_clear_near(self.near, name, action)
     }
 
-    /// Whether nothing keeps the task from the action. Its standing says where its row is looked
-    /// for first.
+    /// Whether nothing blocks the task's action. Its situation says where its row is looked for
+    /// first.
     #[inline(always)]
     pub fn is_clear_at(&self, standing: &Standing<'_>, name: &TaskName, action: &Action) -> bool
         ensures { ForUnended self.now name.now (λ H. IsTrue result ↔ (in_the_way H name.now action.now ≡ None)) }
@@ -108,8 +108,8 @@ impl Tables {
                 .is_some()
     }
 
-    /// What keeps the task from its start: a sibling on which it depends, else one that excludes
-    /// it. One that has started excludes those itself.
+    /// What blocks the task's start: a sibling on which it depends, else one that excludes it. One
+    /// that has started excludes those itself.
     fn before_start(&self, name: &TaskName, own: &Row) -> Option<Obstacle<'_>>
         requires { row self.now.rows name.now ≡ Some own.now }
         ensures { ForUnended self.now name.now (λ H. IsFree H name.now → in_the_way H name.now Start ≡ option_map (hindrance_by name.now) result) }
@@ -129,7 +129,7 @@ impl Tables {
     }
 }
 
-/// The undeferred child at which the task stands, where it isn't over: its last one.
+/// The undeferred child for which the task waits, where it isn't over: its last one.
 #[inline(always)]
 fn undeferred(waits: &Wait, name: &TaskName, row: &Row) -> Option<u32>
     ensures { (cells : Cells) (H : History) → Legal cells H → AreKin H waits.now.tasks → IsSpawned H name.now → IsKnown (own name.now H) (seen_row row.now) →

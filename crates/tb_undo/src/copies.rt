@@ -1,4 +1,4 @@
-//! Copies of a name, one for each table that keeps it.
+//! Copies of a name, one for each table that retains it.
 
 ghost use Rattle.std.specs.Prelude.{◌≡◌, ◌≤◌, IfOk, IsOk, length, drop};
 ghost use Rattle.tb_model.specs.Names.{same_name};

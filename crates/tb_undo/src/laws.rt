@@ -7,8 +7,8 @@ ghost use Rattle.tb_model.specs.Needs.{step_of};
 ghost use Rattle.tb_model.specs.Reordering.{IsUnneeded};
 ghost use Rattle.tb_undo.specs.Steps.{replaced_for};
 
-/// Without a step that nothing needs, wherever it stood, each other event leaves its task at the
-/// line at which it left it, and what it replaced is the same.
+/// Without a step that nothing needs, wherever it was, each other event leaves its task at the line
+/// at which it left it, and what it replaced is the same.
 #[tactic(auto, using(crate::proofs::MiddleLemmas::lines_kept, crate::proofs::MiddleLemmas::records_kept))]
 pub fn taken_out()
     ensures lines { (later front : List Departure) (d : Departure) →

@@ -3,8 +3,9 @@
 use crate::row::Row;
 use crate::tables::Tables;
 
-/// The patterns name every field: none is a program or an event, and none a copy of an earlier state.
-/// They are compiled with the crate, so that a further field is refused until it stands here.
+/// The patterns name every field: none is a program or an event, and none a copy of an earlier
+/// state. They are compiled with the crate, so that a further field is refused until it is named
+/// here.
 fn name_every_field(tables: &Tables, row: &Row) {
     let Tables {
         alloc: _,

@@ -13,8 +13,9 @@ use crate::standing::Standing;
 use tb_model::TaskName;
 use tb_wait::Wait;
 
-/// The place of the task's name in the table of waits, where its row stands, if the task does. The place `near` is tried first,
-/// which may be any, since a place counts only where the very name stands.
+/// The index of the task's name in the table of waits, where its row is, if the task is there. The
+/// index `near` is tried first, which may be any, since an index counts only where the very name
+/// is.
 #[inline(always)]
 pub fn find(rows: &Vec<Option<Row>>, waits: &Wait, near: usize, name: &TaskName) -> Option<usize>
     requires { AreInPlace waits.now.tasks rows.now.items }
@@ -26,7 +27,7 @@ pub fn find(rows: &Vec<Option<Row>>, waits: &Wait, near: usize, name: &TaskName)
     find_elsewhere(rows, waits, near, name)
 }
 
-/// The place of a task's name that isn't at the place `near`: mostly the task was generated right
+/// The index of a task's name that isn't at the index `near`: mostly the task was generated right
 /// after the one there, or is its parent, its child or its sibling.
 // out of line: most calls don't pay for its stack frame
 #[inline(never)]
@@ -47,7 +48,7 @@ fn find_elsewhere(
     waits.walk_place(&mut walk, name)
 }
 
-/// Whether the task's row is at the place.
+/// Whether the task's row is at the index.
 #[inline(always)]
 fn stands_at(rows: &Vec<Option<Row>>, at: usize, name: &TaskName) -> bool
     ensures { IsTrue result → (r : ARow) × (row_at rows.now.items at ≡ Some r) × (r.holders.parent ≡ name.now) }
@@ -58,7 +59,7 @@ fn stands_at(rows: &Vec<Option<Row>>, at: usize, name: &TaskName) -> bool
     }
 }
 
-/// The row at the place, where a task stands there.
+/// The row at the index, where a task is there.
 #[inline(always)]
 pub fn row_at(rows: &Vec<Option<Row>>, at: usize) -> Option<&Row>
     ensures { option_copied result ≡ row_at rows.now.items at }
@@ -69,7 +70,7 @@ pub fn row_at(rows: &Vec<Option<Row>>, at: usize) -> Option<&Row>
     }
 }
 
-/// The task's row, which is looked for at the place `near` first.
+/// The task's row, which is looked for at the index `near` first.
 #[inline(always)]
 pub fn get<'a>(
     rows: &'a Vec<Option<Row>>,
@@ -84,7 +85,7 @@ pub fn get<'a>(
     row_at(rows, at)
 }
 
-/// Where the task stands, by its row, which is looked for at the place `near` first.
+/// Where the task is, by its row, which is looked for at the index `near` first.
 #[inline(always)]
 pub fn standing<'a>(
     rows: &'a Vec<Option<Row>>,

@@ -1,9 +1,9 @@
-//! What keeps a task from an action.
+//! What blocks a task's action.
 
 use tb_model::TaskName;
 
-/// What keeps a task from an action: one of its children or siblings, by its number among them, or
-/// a member of the group that it would close.
+/// What blocks a task's action: one of its children or siblings, by its ordinal among them, or a
+/// member of the group that it would close.
 #[derive(Clone, Copy)]
 pub enum Obstacle<'a> {
     Undeferred { child: u32 },

@@ -7,7 +7,7 @@ use tb_depend::Over;
 use tb_model::TaskName;
 use tb_wait::Wait;
 
-/// The children of this task that aren't unended, by what is kept of who waits for whom.
+/// The children of this task that aren't unended, by what is stored of who waits for whom.
 #[derive(Drop)]
 pub struct ChildrenOver<'a> {
     pub waits: &'a Wait,
@@ -28,7 +28,7 @@ impl Over for ChildrenOver<'_> {
 }
 
 impl ChildrenOver<'_> {
-    /// Whether the child with any number is over, or there is none, by a search among those that
+    /// Whether the child with any ordinal is over, or there is none, by a search among those that
     /// are unended.
     fn is_over_by_search(&self, child: usize) -> bool
         ensures { result ≡ is_child_over self.now.waits.now.tasks self.now.parent.now child }

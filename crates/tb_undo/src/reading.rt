@@ -1,4 +1,4 @@
-//! What the tables tell of a task, of the cells and of the output.
+//! What the tables say of a task, of the cells and of the output.
 
 ghost use Rattle.std.specs.Prelude.{◌≡◌, ◌<◌, ◌≤◌, [], ℕ, List, Some, None, IfSome, length, option_map, reverse, slice_get, if◌then◌else◌};
 ghost use Rattle.std.specs.List.{IsDistinct, list_any};
@@ -23,7 +23,7 @@ use crate::tables::Tables;
 use tb_model::{Item, TaskName};
 
 impl Tables {
-    /// The task's place among all that were ever generated, which it keeps for good.
+    /// The task's index among all that were ever generated, which it retains for good.
     #[inline(always)]
     pub fn place(&self, name: &TaskName) -> Option<usize>
         ensures { result ≡ place self.now.waits.tasks name.now }
@@ -31,7 +31,8 @@ impl Tables {
         self.waits.place(self.near, name)
     }
 
-    /// The name of the task at this place, whether the task stands or not. A place fits in 32 bits.
+    /// The name of the task at this index, whether the task is there or not. An index fits in 32
+    /// bits.
     #[inline(always)]
     pub fn name(&self, at: usize) -> Option<&TaskName>
         ensures name { option_copied result ≡ slice_get (keys_of self.now.waits.tasks) at }
@@ -56,8 +57,8 @@ impl Tables {
         self.waits.is_over(name).unwrap_or(false)
     }
 
-    /// Whether the task is over. Its standing says where it is looked for first: mostly its name
-    /// has the same place in both tables.
+    /// Whether the task is over. Its situation says where it is looked for first: mostly its name
+    /// has the same index in both tables.
     #[inline(always)]
     pub fn has_ended_at(&self, standing: &Standing<'_>, name: &TaskName) -> bool
         ensures { ForHistory self.now (λ H. result ≡ list_any (ends name.now) H) }
@@ -67,7 +68,7 @@ impl Tables {
             .unwrap_or(false)
     }
 
-    /// The least unended task behind this one, or the least of all where none is given. So the
+    /// The least unended task after this one, or the least of all where none is given. So the
     /// unended tasks can be listed in order, each found by a binary search.
     pub fn next_unended(&self, after: Option<&TaskName>) -> Option<&TaskName>
         ensures { ForTasks self.now (λ root_line D.
@@ -76,7 +77,7 @@ impl Tables {
         self.marks.next_marked(after)
     }
 
-    /// The least unended task behind this one, or of all, in a walk over them: `walk` is handed on,
+    /// The least unended task after this one, or of all, in a walk over them: `walk` is handed on,
     /// at first any, and `near` becomes where its row is looked for first.
     pub fn walk_unended(
         &self,
@@ -88,12 +89,12 @@ impl Tables {
             IsLeastName (IsUnendedBehind (events_of D) (option_copied after.entry)) (option_copied result)) }
     {
         let found = self.marks.walk_marked(walk, after);
-        // mostly a name has the same place in both tables
+        // mostly a name has the same index in both tables
         *near = self.marks.index_in(*walk);
         found
     }
 
-    /// Where the task stands.
+    /// Where the task is.
     #[inline(always)]
     pub fn standing(&self, name: &TaskName) -> Option<Standing<'_>>
         ensures { ForTasks self.now (λ root_line D. result ≡ option_map standing_of (task_of root_line D name.now)) }
@@ -101,7 +102,7 @@ impl Tables {
         standing(&self.rows, &self.waits, self.near, name)
     }
 
-    /// Where the task stands, in a walk over tasks: `near` hands on where the last one's row is, at
+    /// Where the task is, in a walk over tasks: `near` hands on where the last one's row is, at
     /// first none.
     pub fn walk_standing(&self, near: &mut Option<usize>, name: &TaskName) -> Option<Standing<'_>>
         ensures { ForTasks self.now (λ root_line D. result ≡ option_map standing_of (task_of root_line D name.now)) }
@@ -132,7 +133,7 @@ impl Tables {
         self.waits.children(name)
     }
 
-    /// The least number above `low` of a child of the task that hasn't ended. So its unended
+    /// The least ordinal above `low` of a child of the task that hasn't ended. So its unended
     /// children can be listed in order, from 0 on. Takes no memory.
     pub fn next_child(&self, name: &TaskName, low: u32) -> Option<u32>
         ensures { ForTasks self.now (λ root_line D. IsNextChild (events_of D) name.now low result) }
@@ -157,7 +158,7 @@ impl Tables {
         }
     }
 
-    /// Whether the task depends on its sibling with this number.
+    /// Whether the task depends on its sibling with this ordinal.
     pub fn is_before(&self, number: u32, name: &TaskName) -> bool
         ensures { ForHistory self.now (λ H. result ≡ before H (sibling name.now number) name.now) }
     {
@@ -167,7 +168,7 @@ impl Tables {
         }
     }
 
-    /// Whether the task and its sibling with this number exclude each other.
+    /// Whether the task and its sibling with this ordinal exclude each other.
     pub fn is_apart(&self, number: u32, name: &TaskName) -> bool
         ensures { ForHistory self.now (λ H. result ≡ apart H (sibling name.now number) name.now) }
     {
@@ -177,21 +178,21 @@ impl Tables {
         }
     }
 
-    /// The numbers of the cells, in order.
+    /// The values of the cells, in order.
     pub fn cells(&self) -> &[i64]
         ensures { ForState self.now (λ first root_line D. AreLast first (events_of D) result.now) }
     {
         self.store.cells()
     }
 
-    /// The printed numbers, in order.
+    /// The printed values, in order.
     pub fn output(&self) -> &[i64]
         ensures { ForState self.now (λ first root_line D. result.now ≡ reverse (printed (events_of D))) }
     {
         self.store.output()
     }
 
-    /// The number of a cell.
+    /// The value of a cell.
     pub fn get(&self, cell: u32) -> i64
         requires { cell < length self.now.store.cells }
         ensures { ForState self.now (λ first root_line D. result ≡ last (first_number first cell) cell (events_of D)) }
@@ -199,7 +200,7 @@ impl Tables {
         self.store.get(cell)
     }
 
-    /// The task's number among its parent's children, and the parent. The root has none.
+    /// The task's ordinal among its parent's children, and the parent. The root has none.
     fn family(&self, name: &TaskName) -> Option<(u32, &Row)>
         ensures some { IfSome result (λ r. ForHistory self.now (λ H. IsNthOf H name.now r.0 r.1.now.children.siblings)) }
         ensures none { result ≡ None → ForHistory self.now (λ H. items_of name.now H ≡ []) }

@@ -1,4 +1,4 @@
-//! What is kept of one task.
+//! What is stored of one task.
 
 ghost use Rattle.std.specs.Prelude.{◌≡◌, ◌<◌, ◌≤◌, length, OnOk, IsOk, Some, None, true, false, if◌then◌else◌};
 ghost use Rattle.tb_model.specs.declared.place.Place.{Place as APlace};
@@ -28,8 +28,7 @@ pub struct Row {
 }
 
 impl Row {
-    /// A task that the parent just generated, whose row may stand at `above`, with its own name beside
-    /// it.
+    /// A task that the parent just generated, whose row may be at `above`, with its own name.
     pub fn new(
         alloc: Global,
         name: TaskName,
@@ -70,7 +69,7 @@ impl Row {
         self.near_parent as usize
     }
 
-    /// The number that the action writes over in the registers.
+    /// The value that the action writes over in the registers.
     #[inline(always)]
     pub fn over(&self, action: &Action) -> Option<i64>
         requires { IsRegister action.now }
@@ -82,7 +81,7 @@ impl Row {
         }
     }
 
-    /// The task takes a step, which leaves it at this line.
+    /// The task executes a step, which leaves it at this line.
     #[inline(always)]
     pub fn advance(&mut self, action: &Action, to: u32)
         requires register { IsRegister action.now }
@@ -125,7 +124,7 @@ impl Row {
         }
     }
 
-    /// Makes the room that `hold` needs, and changes nothing else.
+    /// Reserves the capacity that `hold` needs, and changes nothing else.
     pub fn reserve_hold(&mut self, n: u32) -> Result<(), AllocError>
         ensures task { seen_row self.new ≡ seen_row self.old }
         ensures ok { OnOk result (HasRoomFor self.new.holders (items_at self.new.children.siblings n)) }
@@ -139,7 +138,7 @@ impl Row {
             .reserve_take(n, self.children.items(n as usize))
     }
 
-    /// Makes the room that a step needs which generates a child with these items.
+    /// Reserves the capacity that a step needs which generates a child with these items.
     pub fn reserve_child(&mut self, items: &[Item], deferred: bool) -> Result<(), AllocError>
         ensures task { seen_row self.new ≡ seen_row self.old }
         ensures ok { OnOk result (HasChildRoom self.new items.now deferred) }
@@ -155,7 +154,7 @@ impl Row {
         }
     }
 
-    /// Takes its newest step back, by the number and the line that it replaced.
+    /// Takes its newest step back, by the value and the line that it replaced.
     pub fn retreat(&mut self, action: &Action, number: Option<i64>, at: u32)
         requires { IsRegister action.now }
         ensures task { seen_row self.new ≡ retreated action.now number at (seen_row self.old) }

@@ -1,4 +1,4 @@
-//! The rows of the tasks, by the places of their names in the table of waits.
+//! The rows of the tasks, by the indexes of their names in the table of waits.
 
 ghost use Rattle.std.specs.Prelude.{◌≡◌, ◌<◌, ◌≤◌, ◌-◌, [], ◌∷◌, IfSome, IfOk, OnOk, IsOk, Some, None, if◌then◌else◌, true, option_map, length, vec_capacity};
 ghost use Rattle.tb_model.specs.declared.place.Place.{Place as APlace};
@@ -33,7 +33,7 @@ pub fn hold(rows: &mut Vec<Option<Row>>, waits: &Wait, near: usize, name: &TaskN
     }
 }
 
-/// Makes the room that it needs to hold them, and changes nothing else.
+/// Reserves the capacity that it needs to hold them, and changes nothing else.
 pub fn reserve_hold(
     rows: &mut Vec<Option<Row>>,
     waits: &Wait,
@@ -68,8 +68,8 @@ pub fn root_row(alloc: Global, line: u32) -> Result<Vec<Option<Row>>, AllocError
     Ok(rows)
 }
 
-/// Makes the room for one more task, and for the step of its parent that generates it with these
-/// items.
+/// Reserves the capacity for one more task, and for the step of its parent that generates it with
+/// these items.
 pub fn reserve_row(
     rows: &mut Vec<Option<Row>>,
     waits: &Wait,
@@ -92,7 +92,7 @@ pub fn reserve_row(
     reserve_child(rows, waits, near, parent, items, deferred)
 }
 
-/// Makes the room for the child's row, where it has no place yet.
+/// Reserves the capacity for the child's row, where it has no index yet.
 fn reserve_place(
     rows: &mut Vec<Option<Row>>,
     waits: &Wait,
@@ -113,7 +113,7 @@ fn reserve_place(
     rows.reserve(1)
 }
 
-/// Makes the room for a step of the task that generates a child with these items.
+/// Reserves the capacity for a step of the task that generates a child with these items.
 fn reserve_child(
     rows: &mut Vec<Option<Row>>,
     waits: &Wait,
@@ -138,8 +138,8 @@ fn reserve_child(
     Ok(())
 }
 
-/// The task takes a step, which leaves it at this line. Tells the place of its row, the register's
-/// number that the action writes over, and where the task stood.
+/// The task executes a step, which leaves it at this line. Returns the index of its row, the
+/// register's value that the action writes over, and where the task was.
 #[inline(always)]
 pub fn advance(
     rows: &mut Vec<Option<Row>>,
@@ -193,7 +193,8 @@ pub fn retreat(
     }
 }
 
-/// A task comes to stand, in the room that is there: its name has just come to the table of waits, or stood there before.
+/// A task comes to be, in the capacity that is there: its name has just come to the table of waits,
+/// or was there before.
 pub fn add(rows: &mut Vec<Option<Row>>, waits: &Wait, name: &TaskName, row: Row)
     requires can { CanCome waits.now.tasks name.now rows.old.items (vec_capacity rows.old - length rows.old.items) }
     requires own { row.holders.parent ≡ name.now }
@@ -211,7 +212,7 @@ pub fn add(rows: &mut Vec<Option<Row>>, waits: &Wait, name: &TaskName, row: Row)
     }
 }
 
-/// A task stands no longer.
+/// A task is no longer there.
 pub fn remove(rows: &mut Vec<Option<Row>>, waits: &Wait, near: usize, name: &TaskName)
     requires { AreInPlace waits.now.tasks rows.old.items }
     ensures placed { AreInPlace waits.now.tasks rows.new.items }
@@ -222,7 +223,7 @@ pub fn remove(rows: &mut Vec<Option<Row>>, waits: &Wait, near: usize, name: &Tas
     }
 }
 
-/// The parent's place, and the task's number among its children. The root has none.
+/// The parent's index, and the task's ordinal among its children. The root has none.
 fn place_of(
     rows: &Vec<Option<Row>>,
     waits: &Wait,

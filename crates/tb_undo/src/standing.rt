@@ -1,4 +1,4 @@
-//! Where a task stands.
+//! Where a task is.
 
 ghost use Rattle.std.specs.Prelude.{◌≡◌};
 ghost use Rattle.tb_undo.specs.Standings.{standing_of};
@@ -7,8 +7,8 @@ ghost use Rattle.tb_undo.specs.Tasks.{seen_row};
 use crate::row::Row;
 use std::marker::Model;
 
-/// Where a task stands: its line, how many steps it has taken, and its registers, read where they are
-/// kept.
+/// Where a task is: its line, how many steps it has executed, and its registers, read where they
+/// are stored.
 #[derive(Drop)]
 pub struct Standing<'a> {
     row: &'a Row,
@@ -39,7 +39,7 @@ impl<'a> Standing<'a> {
         self.place
     }
 
-    /// The line at which the task stands.
+    /// The line at which the task is.
     #[inline(always)]
     pub fn at(&self) -> u32
         ensures { result ≡ self.now.at }
@@ -47,7 +47,7 @@ impl<'a> Standing<'a> {
         self.row.at
     }
 
-    /// How many steps the task has taken.
+    /// How many steps the task has executed.
     #[inline(always)]
     pub fn steps(&self) -> u32
         ensures { result ≡ self.now.steps }

@@ -22,14 +22,14 @@ use tb_store::{Replaced, Store};
 use tb_wait::Wait;
 
 /// The state that a history leaves: the cells and the output, who waits for whom, which tasks
-/// haven't ended, and of each task where it stands and its children by their items.
+/// haven't ended, and of each task where it is and its children by their items.
 #[derive(Drop)]
 pub struct Tables {
     pub(crate) alloc: Global,
     pub(crate) store: Store,
     pub(crate) waits: Wait,
     pub(crate) marks: Ready,
-    // a task's row at the place of its name in `waits`, and none there while its spawn is undone
+    // a task's row at the index of its name in `waits`, and none there while its spawn is undone
     pub(crate) rows: Vec<Option<Row>>,
     // where the row of the task that took the last step is, so looked for first
     pub(crate) near: usize,
@@ -50,7 +50,7 @@ impl Model for Tables {
 }
 
 impl Tables {
-    /// The tables of a history without events: a program with these first numbers of its cells, and
+    /// The tables of a history without events: a program with these first values of its cells, and
     /// with the body of the root at this line.
     pub fn open(alloc: Global, cells: &[i64], root_line: u32) -> Result<Tables, AllocError>
         ensures { IfOk result (IsState cells.now root_line []) }
@@ -66,7 +66,7 @@ impl Tables {
         })
     }
 
-    /// Makes the room that `apply` needs for this event, and changes nothing else.
+    /// Reserves the capacity that `apply` needs for this event, and changes nothing else.
     #[inline(always)]
     pub fn reserve_apply(&mut self, event: &Event) -> Result<(), AllocError>
         requires { IsAhead self.old event.now }
@@ -82,8 +82,8 @@ impl Tables {
         }
     }
 
-    /// Takes the event, which leaves its task at this line, and tells what it replaced. The history
-    /// of the tables with this event behind it is legal.
+    /// Applies the event, which leaves its task at this line, and returns what it replaced. The
+    /// history of the tables with this event after it is legal.
     #[inline(always)]
     pub fn apply(&mut self, event: &Event, to: u32) -> Result<Replaced, AllocError>
         requires { IsAhead self.old event.now }
@@ -98,8 +98,8 @@ impl Tables {
         Ok(self.change(event, to))
     }
 
-    /// Takes the event back by what it replaced, wherever it stands in the history: nothing there
-    /// needs it. Takes no memory.
+    /// Takes the event back by what it replaced, wherever it is in the history: nothing there needs
+    /// it. Takes no memory.
     pub fn revert(&mut self, event: &Event, replaced: Replaced)
         requires { Stands self.old event.now replaced }
         ensures without { IsWithout self.old event.now replaced self.new }
@@ -108,16 +108,16 @@ impl Tables {
         self.change_back(event, replaced)
     }
 
-    /// Turns to the task, which takes a step: its row, and what is kept of it beside, are looked for
-    /// where they are.
+    /// Turns to the task, which executes a step: its row, and what is stored of it besides, are
+    /// looked for where they are.
     fn turn_to(&mut self, name: &TaskName)
         ensures { self.new ≡ self.old }
     {
         self.turn_near(self.near, name);
     }
 
-    /// Turns to the task, which takes a step. Its row is looked for at this place first, which may
-    /// be any.
+    /// Turns to the task, which executes a step. Its row is looked for at this index first, which
+    /// may be any.
     #[inline(always)]
     pub fn turn_near(&mut self, near: usize, name: &TaskName)
         ensures { self.new ≡ self.old }
@@ -127,7 +127,7 @@ impl Tables {
         }
     }
 
-    /// Turns to the task, which takes a step, where the place of its row is known.
+    /// Turns to the task, which executes a step, where the index of its row is known.
     #[inline(always)]
     pub(crate) fn turn_to_place(&mut self, at: usize, name: &TaskName)
         ensures { self.new ≡ self.old }
@@ -137,8 +137,8 @@ impl Tables {
         }
     }
 
-    /// Makes the room for the spawn of a child. The names that are copied for another are given up last, so not where
-    /// memory is wanted.
+    /// Reserves the capacity for the spawn of a child. The names that are copied for another are
+    /// given up last, so not where memory is wanted.
     pub(crate) fn reserve_spawn(
         &mut self,
         parent: &TaskName,
@@ -158,7 +158,7 @@ impl Tables {
         self.reserve_copies(parent, child)
     }
 
-    /// Makes the room for the child on each table, but for its names.
+    /// Reserves the capacity for the child on each table, but for its names.
     fn reserve_family(
         &mut self,
         parent: &TaskName,
@@ -177,7 +177,7 @@ impl Tables {
         self.marks.reserve_add(child)
     }
 
-    /// Makes the room for the child's row, and for the step of its parent.
+    /// Reserves the capacity for the child's row, and for the step of its parent.
     fn reserve_row(
         &mut self,
         parent: &TaskName,
@@ -205,7 +205,7 @@ impl Tables {
         )
     }
 
-    /// Makes the room for what a start takes.
+    /// Reserves the capacity for what a start takes.
     pub(crate) fn reserve_start(&mut self, name: &TaskName) -> Result<(), AllocError>
         requires { IsLinked self.old.rows name.now }
         ensures same { AreSame self.old self.new }
@@ -243,7 +243,7 @@ impl Tables {
         Ok(())
     }
 
-    /// Takes the event on all tables, in the room that is there.
+    /// Applies the event on all tables, in the capacity that is there.
     #[inline(always)]
     fn change(&mut self, event: &Event, to: u32) -> Replaced
         requires can { CanChange self.old event.now }
@@ -284,7 +284,7 @@ impl Tables {
         }
     }
 
-    /// What the action stores or prints. Tells the number that it writes over in the cells.
+    /// What the action stores or prints. Returns the value that it writes over in the cells.
     #[inline(always)]
     fn write(&mut self, action: &Action) -> Option<i64>
         requires cell { IsCell (length self.old.store.cells) action.now }
@@ -304,7 +304,7 @@ impl Tables {
         }
     }
 
-    /// A child comes to stand, with its name's copies that were made for it.
+    /// A child comes to be, with its name's copies that were made for it.
     fn spawn(&mut self, parent: &TaskName, child: &TaskName, body: u32, args: &[i64])
         requires next { IsNext self.old.waits.tasks parent.now child.now }
         requires absent { mark_of self.old.marks.tasks child.now ≡ None }
@@ -410,7 +410,7 @@ impl Tables {
         }
     }
 
-    /// The task's last child stands no longer.
+    /// The task's last child is no longer there.
     fn unspawn(&mut self, parent: &TaskName, child: &TaskName)
         requires { IsLast self.old.waits.tasks parent.now child.now }
         ensures store { self.new.store ≡ self.old.store }

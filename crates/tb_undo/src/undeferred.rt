@@ -6,7 +6,8 @@ ghost use Rattle.tb_undo.specs.Undeferred.{is_first};
 use std::alloc::{AllocError, Global};
 use std::marker::Model;
 
-/// The numbers of these steps. They stand on the heap, where one was ever noted: few tasks generate an undeferred child.
+/// The ordinals of these steps. They are on the heap, where one was ever noted: few tasks generate
+/// an undeferred child.
 #[derive(Drop)]
 pub struct Undeferred {
     alloc: Global,
@@ -40,7 +41,7 @@ impl Undeferred {
         }
     }
 
-    /// Makes the room for one step more.
+    /// Reserves the capacity for one step more.
     pub fn reserve(&mut self) -> Result<(), AllocError>
         ensures steps { self.new.steps ≡ self.old.steps }
         ensures ok { OnOk result (0 < self.new.room) }
@@ -58,7 +59,7 @@ impl Undeferred {
         }
     }
 
-    /// Notes a step in the room that is there.
+    /// Notes a step in the capacity that is there.
     pub fn push(&mut self, step: u32)
         requires { 0 < self.old.room }
         ensures { self.new.steps ≡ step ∷ self.old.steps }

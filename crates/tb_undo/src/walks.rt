@@ -21,8 +21,8 @@ pub fn is_held(row: &Row) -> bool
     row.undeferred.is_newest(row.steps)
 }
 
-/// The least of the parent's children that isn't over and on which the nth depends. Whether there is
-/// one is asked of those near it alone; only its number costs a walk.
+/// The least of the parent's children that isn't over and on which the nth depends. Whether there
+/// is one is asked of its nearest ones alone; only its ordinal costs a walk.
 pub fn next_before(waits: &Wait, siblings: &Siblings, parent: &TaskName, n: u32) -> Option<u32>
     ensures { IsClosed siblings.now.siblings (is_child_over waits.now.tasks parent.now) →
         IsLeastNumber (IsUnendedWhere waits.now.tasks parent.now (depends siblings.now.siblings n)) result }
@@ -44,8 +44,8 @@ pub fn next_before(waits: &Wait, siblings: &Siblings, parent: &TaskName, n: u32)
 }
 
 /// The least of the task's children that isn't over and for which a `taskwait` with these items
-/// waits. With items, whether there is one is asked of those alone that would be near a further
-/// child; only its number costs a walk.
+/// waits. With items, whether there is one is asked of those alone that would be nearest to a
+/// further child; only its ordinal costs a walk.
 pub fn next_covered(
     waits: &Wait,
     children: &Siblings,

@@ -64,7 +64,7 @@ running_by : (b : Bool) (a : Action) (acts : List Action) (rest : Bool) → ((b 
 running_by true a acts rest over some on = ap not (not_or (is_end a) rest over).0
 running_by false a acts rest over some on = on over some
 
--- a task that took steps and isn't over goes on
+-- a task that executed steps and isn't over goes on
 running : (t : Name) (H : History) → list_any (ends t) H ≡ false → 0 < length (own t H) → IsRunning (own t H)
 running t [] over some = absurd (omega (arith, some))
 running t (v ∷ H) over some = running_by (is_of t v) v.action (own t H) (list_any (ends t) H) over some (running t H)

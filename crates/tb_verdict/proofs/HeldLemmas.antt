@@ -67,7 +67,7 @@ module _ (first : Cells) (H : History) (count : ℕ) (k : Option ℕ) (v : Event
     };
   }
 
--- where only room was made for a value
+-- where only capacity was made for a value
 pub is_same : (old new : RunState) → new.cells ≡ old.cells → new.tables ≡ old.tables → new.values.entries ≡ old.values.entries → IsSame old new
 is_same old new cells tables values = record {
   cells = cells;
@@ -78,7 +78,7 @@ is_same old new cells tables values = record {
 pub holds_none : (first : Cells) (s : RunState) → IsRun first 0 [] s → Holds first [] 0 s
 holds_none first s run = record { counted = refl; run = run }
 
--- ---- a line behind the first event
+-- ---- a line after the first event
 
 pub runs_on : (first : Cells) (H : History) (k : Option ℕ) (v : Event) (line : List ℕ) (count : ℕ) (s : RunState) (o : LineVerdict) →
     line_said [] (stage.Events (length first)) line ≡ Ok (Some (says.Event k v)) → Counts first H k v o count s → Runs first H line o count s

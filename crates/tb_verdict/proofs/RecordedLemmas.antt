@@ -30,7 +30,7 @@ abbrev sofar_of : Recorded → Sofar
 sofar_of (Front at firsts) = Heading at firsts
 sofar_of (Steps first steps) = Running first (history_of steps)
 
--- the history is legal, and the numbers are due
+-- the history is legal, and the ordinals are due
 abbrev IsSound : Recorded → Type 0
 IsSound (Front at firsts) = Unit {0}
 IsSound (Steps first steps) = AreDue steps × Legal first (history_of steps)

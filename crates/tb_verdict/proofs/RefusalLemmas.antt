@@ -17,7 +17,7 @@ use Rattle.tb_verdict.specs.Refusals.{refusal_of, out_of_turn, kept_by, unfit}
 use Rattle.tb_verdict.specs.declared.refusal.Refusal.{Refusal}
 use Rattle.tb_verdict.specs.declared.refusal.Refusal.TheVariants.{NoSuchTask, Ended}
 
--- ---- where a task stands
+-- ---- where a task is
 
 none_by : (b : Bool) (k : Task) → option_map standing_of (cond b (Some k) None) ≡ None → b ≡ false
 none_by true k e = absurd (let h : ◌≡◌ {A = Option Standing} (Some (standing_of k)) None = e in cc)
@@ -66,18 +66,18 @@ no_child : (t u : Name) (m : ℕ) → slice_get u 0 ≡ None → same_name u (m 
 no_child t [] m e = refl
 no_child t (d ∷ u) m e = absurd (let h : ◌≡◌ {A = Option ℕ} (Some d) None = e in cc)
 
--- a name without a number is no child's
+-- a name without an ordinal is no child's
 pub unnumbered : (t u : Name) (n : ℕ) → slice_get u 0 ≡ None → false ≡ same_name u (child t (suc n))
 unnumbered t u n e = sym (no_child t u (suc n) e)
 
--- a name with a number is the child's with this number, where its parent is the task
+-- a name with an ordinal is the child's with this ordinal, where its parent is the task
 pub numbered_child : (t u : Name) (d n : ℕ) (same : Bool) → slice_get u 0 ≡ Some d → same ≡ (d == suc n) → (same && is_child t u) ≡ same_name u (child t (suc n))
 numbered_child t [] d n same e s = absurd (let h : ◌≡◌ {A = Option ℕ} None (Some d) = e in cc)
 numbered_child t (m ∷ u) d n same e s =
     let h : m ≡ d = (let q : ◌≡◌ {A = Option ℕ} (Some m) (Some d) = e in cc) in
     rw (s, h) refl
 
--- one with another number isn't the next
+-- one with another ordinal isn't the next
 pub other_child : (t u : Name) (d m k n : ℕ) → slice_get u 0 ≡ Some d → m ≡ d → k ≡ n → (m ≡ k + 1 → ⊥) → (m == k + 1) ≡ same_name u (child t (suc n))
 other_child t [] d m k n e i j other = absurd (let h : ◌≡◌ {A = Option ℕ} None (Some d) = e in cc)
 other_child t (b ∷ u) d m k n e i j other =

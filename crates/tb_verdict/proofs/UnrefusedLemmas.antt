@@ -1,4 +1,4 @@
--- An event that may follow isn't refused; one that isn't refused has the number that is due.
+-- An event that may follow isn't refused; one that isn't refused has the ordinal that is due.
 use Rattle.std.proofs.Common.{◌≡◌, ◌≢◌, ℕ, suc, ℤ, List, [], ◌∷◌, Bool, true, false, cond, length, map, ⊎_elim, refl, ap, ◌∙◌, subst, Option, Some, None}
 use Rattle.std.specs.List.{list_any}
 use Rattle.std.proofs.lemmas.Bool.{false_from_ne_true}
@@ -25,7 +25,7 @@ use Rattle.tb_verdict.proofs.RefusalLemmas.{clear}
 
 -- ---- a task in its turn
 
--- who is under way has taken steps
+-- who is under way has executed steps
 later : (acts : List Action) → IsRunning acts → started_by (length acts) false ≡ None
 later [] r = absurd r
 later (a ∷ acts) r = refl
@@ -48,7 +48,7 @@ module _ (first : Cells) (t : Name) where
   in_turn acts End c = later acts c
   in_turn acts Fault c = later acts c
 
--- a step with the number that is due is refused at most as a start is, or what isn't one
+-- a step with the ordinal that is due is refused at most as a start is, or what isn't one
 turn_due : (b : Bool) (n : ℕ) (o : Option Refusal) → b ≡ true → o ≡ None → cond b o (Some (Step n)) ≡ None
 turn_due true n o d e = e
 turn_due false n o d e = absurd (let h : ◌≡◌ {A = Bool} false true = d in cc)

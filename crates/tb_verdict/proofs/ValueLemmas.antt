@@ -1,4 +1,4 @@
--- The last values of the cells, where only those are kept that were given one.
+-- The last values of the cells, where only those are stored that were given one.
 use Rattle.std.proofs.Common.{◌≡◌, ◌≢◌, ◌<◌, ℕ, ℤ, List, [], ◌∷◌, Bool, true, false, cond, length, replicate, get_or, set, refl, sym, ap, ◌∙◌, subst, arith, Option, Some, unwrap_or, nat_eq, nat_lt, Result, Ok, Err, IsOk, OnOk}
 use Rattle.std.specs.Map.{lookup}
 use Rattle.std.proofs.lemmas.Bool.{and_parts, false≢true}

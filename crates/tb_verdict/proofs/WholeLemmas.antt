@@ -16,15 +16,15 @@ use Rattle.tb_verdict.specs.declared.line_verdict.LineVerdict.TheVariants.{Taken
 not_both : {A E : Type 0} (x : A) (e : E) → ◌≡◌ {A = Result A E} (Err e) (Ok x) → ⊥
 not_both x e h = cc
 
--- ---- lines behind others
+-- ---- lines after others
 
--- the line was taken, and the others behind it
+-- the line was taken, and the others after it
 taken_then : (n : ℕ) (r : Result Sofar Ending) (more others : Sofar → Result Sofar (ℕ × Ending)) (t : Sofar) (all : Result Sofar (ℕ × Ending)) → ended_at n r more ≡ Ok t →
     ((u : Sofar) → more u ≡ Ok t → others u ≡ all) → ended_at n r others ≡ all
 taken_then n (Err f) more others t all h step = absurd (not_both t (n, f) h)
 taken_then n (Ok u) more others t all h step = step u h
 
--- the judgement ended at the line, or at one behind it
+-- the judgement ended at the line, or at one after it
 ended_then : (n : ℕ) (r : Result Sofar Ending) (more others : Sofar → Result Sofar (ℕ × Ending)) (f : ℕ × Ending) → ended_at n r more ≡ Err f →
     ((u : Sofar) → more u ≡ Err f → others u ≡ Err f) → ended_at n r others ≡ Err f
 ended_then n (Err g) more others f h step = h
@@ -39,7 +39,7 @@ lines_append n m s t (x ∷ xs) ys e h =
     taken_then n (line_behind s x) (λ s. lines_behind (suc n) s xs) (λ s. lines_behind (suc n) s (xs ++ ys)) t (lines_behind m t ys) h
     (λ u more. lines_append (suc n) m u t xs ys (omega (arith, e)) more)
 
--- what ended the judgement ends it whatever lines come behind
+-- what ended the judgement ends it whatever lines come after
 pub ended_append : (n : ℕ) (s : Sofar) (xs ys : List (List ℕ)) (f : ℕ × Ending) → lines_behind n s xs ≡ Err f → lines_behind n s (xs ++ ys) ≡ Err f
 ended_append n s [] ys f h = absurd (not_both s f (sym h))
 ended_append n s (x ∷ xs) ys f h =

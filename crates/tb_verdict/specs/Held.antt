@@ -26,7 +26,7 @@ use Rattle.tb_verdict.specs.declared.judge.Judge.TheVariants as judge
 abbrev pub departures : History → List Departure
 departures H = map (λ (v : Event). record { event = v; to = 0 }) H
 
--- this is kept of so many events
+-- this is stored of so many events
 pub record Holds (first : Cells) (H : History) (count : ℕ) (s : RunState) : Type 0 where
   pub counted : count ≡ length H
   pub run : IsRun first 0 (departures H) s
@@ -36,19 +36,19 @@ abbrev pub IsHead : Stage → Firsts → Name → Sofar → Type 0
 IsHead at firsts root (Heading stage numbers) = (at ≡ stage) × (firsts ≡ numbers) × (root ≡ [])
 IsHead at firsts root (Running first H) = ⊥
 
--- this is kept of the run
+-- this is stored of the run
 abbrev pub IsRunning : ℕ → RunState → Sofar → Type 0
 IsRunning count s (Heading stage numbers) = ⊥
 IsRunning count s (Running first H) = Holds first H count s
 
--- the judge is behind these lines
+-- the judge is after these lines
 abbrev pub IsBehind : Judge → Sofar → Type 0
 IsBehind (judge.Heading at firsts root) s = IsHead at firsts.entries root s
 IsBehind (judge.Running count state) s = IsRunning count state s
 
 -- ---- an event
 
--- it is counted where it is taken; else nothing changes
+-- the event is counted where it is accepted; else nothing changes
 abbrev pub Counts : Cells → History → Option ℕ → Event → LineVerdict → ℕ → RunState → Type 0
 Counts first H k v (Taken event) count s = (event ≡ Some v) × (refusal_of first H k v ≡ None) × Holds first (v ∷ H) count s
 Counts first H k v (Ends (Refused r)) count s = (refusal_of first H k v ≡ Some r) × Holds first H count s
@@ -56,7 +56,7 @@ Counts first H k v (Ends (Faulty fault)) count s = ⊥
 
 -- ---- a line
 
--- behind the first event: the run goes on, or the judgement ends there
+-- after the first event: the run goes on, or the judgement ends there
 abbrev pub Runs : Cells → History → List ℕ → LineVerdict → ℕ → RunState → Type 0
 Runs first H line (Taken event) count s = (line_behind (Running first H) line ≡ Ok (Running first (with_event event H))) × Holds first (with_event event H) count s
 Runs first H line (Ends ending) count s = (line_behind (Running first H) line ≡ Err ending) × Holds first H count s
@@ -66,13 +66,14 @@ abbrev pub Goes : Sofar → List ℕ → LineVerdict → (Sofar → Type 0) → 
 Goes s line (Taken event) P = (t : Sofar) × (line_behind s line ≡ Ok t) × (history_in t ≡ with_event event (history_in s)) × P t
 Goes s line (Ends ending) P = (line_behind s line ≡ Err ending) × P s
 
--- the judge is behind one line more; or the judgement ends there, and it is behind those in front still
+-- the judge is after one line more; or the judgement ends there, and it is after those in front
+-- still
 abbrev pub Judges : Sofar → List ℕ → Judge → LineVerdict → Type 0
 Judges s line new v = Goes s line v (IsBehind new)
 
 -- ---- the first event
 
--- it begins the run, or the judgement ends there
+-- the event begins the run, or the judgement ends there
 abbrev pub Begins : Cells → Option ℕ → Event → Headed → Type 0
 Begins first k v headed.Stays = ⊥
 Begins first k v (headed.Runs count state event) = (event ≡ Some v) × (refusal_of first [] k v ≡ None) × Holds first (v ∷ []) count state

@@ -11,7 +11,8 @@ use Rattle.tb_verdict.specs.declared.refusal.Refusal.{Refusal}
 use Rattle.tb_verdict.specs.declared.run_state.RunState.{RunState}
 use Rattle.tb_undo.specs.Changes.{AreSame}
 
--- this is kept of a legal history, with these first numbers; a run has no lines, so they may be any
+-- this is stored of a legal history, with these first values; a run has no lines, so they may be
+-- any
 pub record IsRun (first : Cells) (root_line : ℕ) (D : List Departure) (s : RunState) : Type 0 where
   pub legal : Legal first (events_of D)
   pub cells : s.cells ≡ length first
@@ -19,28 +20,28 @@ pub record IsRun (first : Cells) (root_line : ℕ) (D : List Departure) (s : Run
   pub values : AreValues first (events_of D) s.values.entries
   pub few : length D < 4294967295
 
--- it is kept of some run
+-- the state is that of some run
 abbrev pub AreOfRun : RunState → Type 0
 AreOfRun s = (first : Cells) × (root_line : ℕ) × (D : List Departure) × IsRun first root_line D s
 
--- whatever run that is, this holds of its first numbers and of its history
+-- whatever run that is, this holds of its first values and of its history
 abbrev pub ForRun : RunState → (Cells → History → Type 0) → Type 0
 ForRun s P = (first : Cells) (root_line : ℕ) (D : List Departure) → IsRun first root_line D s → P first (events_of D)
 
--- it says what it said
+-- the state says what it said
 pub record IsSame (old new : RunState) : Type 0 where
   pub cells : new.cells ≡ old.cells
   pub tables : AreSame old.tables new.tables
   pub values : AreSameValues old.values.entries new.values.entries
 
--- this is kept of a history with one event more
+-- this is stored of a history with one event more
 pub record HasTaken (first : Cells) (root_line : ℕ) (D : List Departure) (v : Event) (s : RunState) : Type 0 where
   pub legal : Legal first (v ∷ events_of D)
   pub cells : s.cells ≡ length first
   pub state : IsTaskState root_line (record { event = v; to = 0 } ∷ D) s.tables
   pub values : AreValues first (v ∷ events_of D) s.values.entries
 
--- the event is taken, where nothing refuses it; else nothing changes
+-- the event is accepted, where nothing refuses it; else nothing changes
 abbrev pub Takes : Option ℕ → Event → RunState → RunState → Option Refusal → Type 0
 Takes k v old new None =
     (first : Cells) (root_line : ℕ) (D : List Departure) → IsRun first root_line D old

@@ -11,7 +11,7 @@ use Rattle.tb_verdict.specs.Texts.{Sofar, Heading, Running, says_at}
 use Rattle.tb_verdict.specs.declared.refusal.Refusal.{Refusal}
 use Rattle.tb_verdict.specs.declared.refusal.Refusal.TheVariants.{NoSuchTask, Ended, Waiting, Excluded, Children, Group, Undeferred, NotStarted, Started, Reads, Child, NoGroup, Step}
 
--- a copy of the name may be refused: it has more than three numbers
+-- a copy of the name may be refused: it has more than three ordinals
 abbrev pub IsLongName : Name → Type 0
 IsLongName t = 3 < length t
 
@@ -36,7 +36,7 @@ abbrev pub IsLongRefusal : Option Refusal → Type 0
 IsLongRefusal None = ⊥
 IsLongRefusal (Some r) = IsLong r
 
--- the event is taken, for which memory may be wanted, or is refused by such a refusal
+-- the event is accepted, for which memory may be wanted, or is refused by such a refusal
 abbrev pub MayTake : Option Refusal → Type 0
 MayTake None = ⊤
 MayTake (Some r) = IsLong r

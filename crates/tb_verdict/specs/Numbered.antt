@@ -1,4 +1,4 @@
--- Obstacles that name tasks by numbers.
+-- Obstacles that name tasks by ordinals.
 use Rattle.std.specs.Prelude.{◌<◌, ⊤}
 use Rattle.tb_undo.specs.declared.obstacle.Obstacle.{Obstacle}
 use Rattle.tb_undo.specs.declared.obstacle.Obstacle.TheVariants as obstacle

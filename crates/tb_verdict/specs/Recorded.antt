@@ -15,11 +15,11 @@ use Rattle.tb_runs.specs.declared.said.Stage.TheVariants as stage
 use Rattle.tb_verdict.specs.Refusals.{is_due}
 use Rattle.tb_verdict.specs.Texts.{first_numbers}
 
--- an event, and the number of its step where one is given
+-- an event, and the ordinal of its step where one is given
 abbrev pub Step : Type 0
 Step = Option ℕ × Event
 
--- no event came yet, and the cells have these first numbers; or the steps, the newest first
+-- no event came yet, and the cells have these first values; or the steps, the newest first
 pub data Recorded : Type 0 where
   Front : Stage → Firsts → Recorded
   Steps : Cells → List Step → Recorded
@@ -41,7 +41,7 @@ with_line r (Err fault) = Err fault
 with_line r (Ok None) = Ok r
 with_line r (Ok (Some said)) = Ok (with_said r said)
 
--- the fault of the line with this number, or what the lines behind it record too
+-- the fault of the line with this number, or what the lines after it record too
 abbrev pub faulty_at : ℕ → Result Recorded Fault → (Recorded → Result Recorded (ℕ × Fault)) → Result Recorded (ℕ × Fault)
 faulty_at n (Err fault) more = Err (n, fault)
 faulty_at n (Ok r) more = more r
@@ -61,7 +61,7 @@ abbrev pub steps_after : Result Recorded (ℕ × Fault) → Result (Cells × Lis
 steps_after (Err fault) = Err fault
 steps_after (Ok r) = steps_in r
 
--- the first numbers and the steps of a text of these lines, or its fault
+-- the first values and the steps of a text of these lines, or its fault
 abbrev pub text_recorded : List (List ℕ) → Result (Cells × List Step) (ℕ × Fault)
 text_recorded lines = steps_after (recorded_behind 1 (Front stage.Begin []) lines)
 
@@ -70,12 +70,12 @@ text_recorded lines = steps_after (recorded_behind 1 (Front stage.Begin []) line
 abbrev pub history_of : List Step → History
 history_of steps = map (λ (s : Step). s.1) steps
 
--- each number that is given is that of its task's next step
+-- each ordinal that is given is that of its task's next step
 abbrev pub AreDue : List Step → Type 0
 AreDue [] = ⊤
 AreDue (s ∷ steps) = AreDue steps × IsTrue (is_due s.0 (step_of (history_of steps) s.1).k)
 
--- the text has no fault and records this history, which is legal, and each number of a step is due
+-- the text has no fault and records this history, which is legal, and each ordinal of a step is due
 pub record RecordsLegal (lines : List (List ℕ)) (first : Cells) (H : History) : Type 0 where
   pub steps : List Step
   pub recorded : text_recorded lines ≡ Ok (first, steps)

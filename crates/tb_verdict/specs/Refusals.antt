@@ -30,7 +30,7 @@ number_of (Child due) = 17
 number_of NoGroup = 18
 number_of (Step due) = 19
 
--- what keeps the task from its action
+-- what blocks the task's action
 abbrev pub kept_by : Hindrance → Refusal
 kept_by (hindrance.Undeferred u) = Undeferred u
 kept_by (hindrance.Waiting u) = Waiting u
@@ -38,9 +38,9 @@ kept_by (hindrance.Excluded u) = Excluded u
 kept_by (hindrance.Children u) = Children u
 kept_by (hindrance.Group u) = Group u
 
--- ---- whether it is the task's turn, behind so many steps of its own
+-- ---- whether it is the task's turn, after so many steps of its own
 
--- a step without a number is the next one
+-- a step without an ordinal is the next one
 abbrev pub is_due : Option ℕ → ℕ → Bool
 is_due None due = true
 is_due (Some k) due = k == due
@@ -57,7 +57,7 @@ out_of_turn k steps a = if is_due k (suc steps) then started_by steps (is_start 
 
 -- ---- what the action says that isn't so
 
--- a load has its cell's last number
+-- a load has its cell's last value
 abbrev pub misread : ℤ → ℤ → Option Refusal
 misread x number = if int_eq x number then None else Some (Reads number)
 

@@ -17,7 +17,7 @@ use Rattle.tb_verdict.specs.declared.refusal.Refusal.{Refusal}
 use Rattle.tb_verdict.specs.declared.ending.Ending.{Ending}
 use Rattle.tb_verdict.specs.declared.ending.Ending.TheVariants.{Faulty, Refused}
 
--- ---- the first numbers of all cells
+-- ---- the first values of all cells
 
 abbrev pub with_firsts : Firsts → Cells → Cells
 with_firsts [] cells = cells
@@ -29,7 +29,8 @@ first_numbers count firsts = with_firsts firsts (replicate count zero_ℤ)
 
 -- ---- the lines so far
 
--- no event came yet, and the cells have these first numbers; or events may come, the newest of those that did first
+-- no event came yet, and the cells have these first values; or events may come, the newest of those
+-- that did first
 pub data Sofar : Type 0 where
   Heading : Stage → Firsts → Sofar
   Running : Cells → History → Sofar
@@ -37,7 +38,7 @@ pub data Sofar : Type 0 where
 abbrev pub start : Sofar
 start = Heading stage.Begin []
 
--- none in front of the first event; the first line that has words gives the number of cells
+-- none in front of the first event; the first line that has words gives the count of cells
 abbrev pub heading_events : Stage → Option ℕ
 heading_events stage.Begin = None
 heading_events (stage.Cells count) = Some 0
@@ -67,11 +68,11 @@ abbrev pub taken_by : Cells → History → Event → Option Refusal → Result 
 taken_by first H v None = Ok (Running first (v ∷ H))
 taken_by first H v (Some refusal) = Err (Refused refusal)
 
--- an event is taken, unless it is refused
+-- an event is accepted, unless it is refused
 abbrev pub event_behind : Cells → History → Option ℕ → Event → Result Sofar Ending
 event_behind first H k v = taken_by first H v (refusal_of first H k v)
 
--- behind the first event no line says anything else
+-- after the first event no line says anything else
 abbrev pub said_behind : Sofar → Said → Result Sofar Ending
 said_behind (Heading at firsts) (says.Cells count) = Ok (Heading (stage.Cells count) firsts)
 said_behind (Heading at firsts) (says.Cell c x) = Ok (Heading at (insert_entry nat_eq firsts c x))
@@ -96,12 +97,13 @@ abbrev pub ended_at : ℕ → Result Sofar Ending → (Sofar → Result Sofar (�
 ended_at n (Err ending) more = Err (n, ending)
 ended_at n (Ok s) more = more s
 
--- these lines behind others, of which the first has this number
+-- these lines after others, of which the first has this number
 abbrev pub lines_behind : ℕ → Sofar → List (List ℕ) → Result Sofar (ℕ × Ending)
 lines_behind n s [] = Ok s
 lines_behind n s (line ∷ lines) = ended_at n (line_behind s line) (λ s. lines_behind (suc n) s lines)
 
--- the first numbers and the events of a text that ends there, and a fault where none of its lines has words
+-- the first values and the events of a text that ends there, and a fault where none of its lines
+-- has words
 abbrev pub ended_in : Sofar → Result (Cells × History) (ℕ × Ending)
 ended_in (Heading stage.Begin firsts) = Err (1, Faulty NoCells)
 ended_in (Heading (stage.Cells count) firsts) = Ok (first_numbers count firsts, [])

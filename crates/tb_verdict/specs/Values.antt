@@ -1,4 +1,4 @@
--- The last values of the cells, where only those are kept that were given one.
+-- The last values of the cells, where only those are stored that were given one.
 use Rattle.std.specs.Prelude.{◌≡◌, ◌<◌, ℕ, ℤ, List, length, nat_eq, unwrap_or, ⊤}
 use Rattle.std.specs.Map.{lookup}
 use Rattle.tb_model.specs.declared.action.Action.{Action}
@@ -15,7 +15,7 @@ value_in values c = unwrap_or (lookup (nat_eq c) values) zero_ℤ
 abbrev pub AreValues : Cells → History → List (ℕ × ℤ) → Type 0
 AreValues first H values = (c : ℕ) → c < length first → value_in values c ≡ last (first_number first c) c H
 
--- they say the same
+-- both say the same of each cell
 abbrev pub AreSameValues : List (ℕ × ℤ) → List (ℕ × ℤ) → Type 0
 AreSameValues old new = (c : ℕ) → value_in new c ≡ value_in old c
 

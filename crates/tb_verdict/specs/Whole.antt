@@ -12,7 +12,7 @@ use Rattle.tb_verdict.specs.declared.text_judge.TextJudge.TheVariants.{Open, End
 use Rattle.tb_verdict.specs.declared.verdict.Verdict.{Verdict}
 use Rattle.tb_verdict.specs.declared.verdict.Verdict.TheVariants.{Legal, Faulty, Refused}
 
--- the judgement ended at none of these lines, and the judge is behind them
+-- the judgement ended at none of these lines, and the judge is after them
 pub record IsOpen (count : ℕ) (judge : Judge) (lines : List (List ℕ)) : Type 0 where
   pub counted : count ≡ length lines
   pub sofar : Sofar

@@ -27,17 +27,17 @@ use tb_runs::{Said, Stage, Unread, read_event, read_line};
 /// The most events of a run; one more wants memory.
 const MOST: u32 = 4_294_967_294;
 
-/// Judges a run text line by line. It keeps no events: what it keeps goes by the tasks, and by the
-/// cells that were given a value.
+/// Judges a run text line by line. It retains no events: what it retains goes by the tasks, and by
+/// the cells that were given a value.
 #[derive(Drop)]
 pub enum Judge {
-    /// No event came yet; the cells that have a first number, and the task that there is.
+    /// No event came yet; the cells that have a first value, and the task that there is.
     Heading {
         stage: Stage,
         firsts: Values,
         root: TaskName,
     },
-    /// The number of the events so far, and what is kept of them.
+    /// The count of the events so far, and what is stored of them.
     Running {
         count: u32,
         state: RunState,
@@ -125,7 +125,7 @@ fn run_line(
 pub enum Headed {
     /// No event came yet.
     Stays,
-    /// The number of the events, and what is kept of them; and the event that the line says, if it
+    /// The count of the events, and what is stored of them; and the event that the line says, if it
     /// says one.
     Runs {
         count: u32,
@@ -137,7 +137,7 @@ pub enum Headed {
     },
 }
 
-/// The number of cells.
+/// The count of cells.
 fn cells_at(stage: Stage) -> u32
     ensures { result ≡ cells_at stage }
 {

@@ -11,8 +11,8 @@ ghost use Rattle.tb_verdict.specs.Refusals.{is_due, refusal_of};
 ghost use Rattle.tb_verdict.specs.Texts.{text_judged};
 
 /// After a legal history nothing refuses an event exactly where the history with it is legal, and
-/// its step's number, where one is given, is the next of its task. What the event names is in range
-/// where it was read (`in_range` of `tb_runs`).
+/// its step's ordinal, where one is given, is the next of its task. What the event names is in
+/// range where it was read (`in_range` of `tb_runs`).
 pub fn refused_exactly()
     ensures unrefused { (first : Cells) (H : History) (k : Option ℕ) (v : Event) → Legal first H →
         IsTrue (names_allowed (length first) v.action) → refusal_of first H k v ≡ None →
@@ -22,7 +22,7 @@ pub fn refused_exactly()
 {}
 
 /// A text is judged to be a legal run exactly where it has no fault, the history that it records is
-/// legal, and each number of a step that it gives is the next of its task.
+/// legal, and each ordinal of a step that it gives is the next of its task.
 pub fn legal_exactly()
     ensures { (lines : List (List ℕ)) (first : Cells) (H : History) →
         (text_judged lines ≡ Ok (first, H)) ↔ RecordsLegal lines first H }

@@ -11,8 +11,8 @@ use std::alloc::AllocError;
 use tb_model::TaskName;
 use tb_undo::Obstacle;
 
-/// What keeps the task from its action, by name. Memory is wanted at most for a name of more than
-/// three numbers.
+/// What blocks the task's action, by name. Memory is wanted at most for a name of more than three
+/// ordinals.
 pub fn named(task: &TaskName, obstacle: Obstacle<'_>) -> Result<Refusal, AllocError>
     requires { IsNumbered obstacle }
     ensures ok { IfOk result (λ r. r ≡ kept_by (hindrance_by task.now obstacle.entry)) }
@@ -37,7 +37,7 @@ pub fn named(task: &TaskName, obstacle: Obstacle<'_>) -> Result<Refusal, AllocEr
     }
 }
 
-/// The child of the task's parent with this number.
+/// The child of the task's parent with this ordinal.
 fn sibling_of(task: &TaskName, number: u32) -> Result<TaskName, AllocError>
     requires { 0 < number }
     ensures ok { IfOk result (λ name. name ≡ sibling task.now number) }

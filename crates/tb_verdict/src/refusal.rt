@@ -14,30 +14,30 @@ pub enum Refusal {
     Ended,
     /// The least task that is before it and hasn't ended.
     Waiting { pred: TaskName },
-    /// The least task that is apart from it, has started and hasn't ended.
+    /// The least task that excludes it, has started and hasn't ended.
     Excluded { by: TaskName },
     /// The least child that its `taskwait` waits for and that hasn't ended.
     Children { first: TaskName },
     /// The least member of its innermost open group that hasn't ended.
     Group { first: TaskName },
-    /// The undeferred child at which it stands hasn't ended.
+    /// The undeferred child for which it waits hasn't ended.
     Undeferred { child: TaskName },
     /// The task hasn't started.
     NotStarted,
     /// The task has started.
     Started,
-    /// The cell has this number.
+    /// The cell has this value.
     Reads { number: i64 },
     /// The next child has this name.
     Child { due: TaskName },
     /// The task has no open group.
     NoGroup,
-    /// The next step has this number.
+    /// The next step has this ordinal.
     Step { due: u64 },
 }
 
 impl Refusal {
-    /// The number by which reports name the refusal.
+    /// The code by which reports name the refusal.
     pub fn number(&self) -> u8
         ensures { result ≡ number_of self.now }
     {

@@ -1,4 +1,4 @@
-//! What is kept of a run to judge its next event.
+//! What is stored of a run to judge its next event.
 
 ghost use Rattle.std.specs.Prelude.{◌≡◌, [], IfOk};
 ghost use Rattle.tb_verdict.specs.Judged.{IsRun};
@@ -8,13 +8,13 @@ use crate::values::Values;
 use std::alloc::{AllocError, Global};
 use tb_undo::Tables;
 
-/// What is kept of a run to judge its next event. Memory goes by its tasks and by the cells that
+/// What is stored of a run to judge its next event. Memory goes by its tasks and by the cells that
 /// were given a value, not by its events or by how many cells there are.
 #[derive(Drop)]
 pub struct RunState {
     /// How many cells there are.
     pub cells: u32,
-    /// What is kept of the tasks. It has no cells.
+    /// What is stored of the tasks. It has no cells.
     pub tables: Tables,
     /// The last value of each cell that was given one; the others hold 0.
     pub values: Values,

@@ -1,4 +1,4 @@
-//! Takes an event, where it may follow.
+//! Applies an event, where it may follow.
 
 ghost use Rattle.std.specs.Prelude.{◌≡◌, IfOk, IsTrue, OnErr};
 ghost use Rattle.tb_plan.specs.Plans.{names_allowed};
@@ -15,9 +15,9 @@ use crate::values::{reserve_value, set_value};
 use std::alloc::AllocError;
 use tb_model::Event;
 
-/// Why the event may not follow the run of which this is kept: the first reason that holds. The
-/// event is its task's next, or that with this number. Memory is wanted at most for a name of more
-/// than three numbers.
+/// Why the event may not follow the run of which this is stored: the first reason that holds. The
+/// event is its task's next, or that with this ordinal. Memory is wanted at most for a name of more
+/// than three ordinals.
 pub fn refusal_for(
     state: &RunState,
     step: Option<u64>,
@@ -45,7 +45,7 @@ pub fn refusal_for(
     unfit(state, task, &event.action)
 }
 
-/// Takes the event where it may follow, and else tells why not and changes nothing.
+/// Applies the event where it may follow, and else returns why not and changes nothing.
 pub fn take(
     state: &mut RunState,
     step: Option<u64>,

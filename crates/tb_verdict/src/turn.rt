@@ -7,7 +7,7 @@ ghost use Rattle.tb_verdict.specs.Refusals.{is_due, out_of_turn, started_by};
 use crate::refusal::Refusal;
 use tb_model::Action;
 
-/// Whether the step may have this number.
+/// Whether the step may have this ordinal.
 #[inline(always)]
 fn is_due(step: Option<u64>, due: u64) -> bool
     ensures { result ≡ is_due step due }

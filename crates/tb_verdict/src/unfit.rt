@@ -14,7 +14,7 @@ use crate::values::value_of;
 use std::alloc::AllocError;
 use tb_model::{Action, TaskName};
 
-/// Why a load may not have this number, where its cell has that one.
+/// Why a load may not have this value, where its cell has that one.
 #[inline(always)]
 fn misread(value: i64, number: i64) -> Option<Refusal>
     ensures { result ≡ misread value number }

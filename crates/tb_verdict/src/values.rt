@@ -1,4 +1,4 @@
-//! The last values of the cells, where only those are kept that were given one.
+//! The last values of the cells, where only those are stored that were given one.
 
 ghost use Rattle.std.specs.Prelude.{◌≡◌, OnOk};
 ghost use Rattle.indexmap.specs.IndexMap.{spare};
@@ -8,7 +8,7 @@ use indexmap::IndexMap;
 use std::alloc::AllocError;
 use tb_model::Action;
 
-/// By the number of the cell.
+/// By the index of the cell.
 pub type Values = IndexMap<u32, i64>;
 
 /// The value of a cell.
@@ -21,7 +21,7 @@ pub fn value_of(values: &Values, cell: u32) -> i64
     }
 }
 
-/// Makes the room for the value that the action stores, if it stores one.
+/// Reserves the capacity for the value that the action stores, if it stores one.
 pub fn reserve_value(values: &mut Values, action: &Action) -> Result<(), AllocError>
     ensures same { values.new.entries ≡ values.old.entries }
     ensures room { OnOk result (HasRoomFor action.now (spare values.new)) }
@@ -32,7 +32,7 @@ pub fn reserve_value(values: &mut Values, action: &Action) -> Result<(), AllocEr
     }
 }
 
-/// Sets the value that the action stores, if it stores one, in the room that is there.
+/// Sets the value that the action stores, if it stores one, in the capacity that is there.
 pub fn set_value(values: &mut Values, action: &Action)
     requires { HasRoomFor action.now (spare values.old) }
     ensures { Stores action.now values.old.entries values.new.entries }

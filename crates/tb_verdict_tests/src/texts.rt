@@ -4,7 +4,7 @@ use std::mem::forget;
 use std::process::Abort;
 use tb_verdict::{Ending, Judge, LineVerdict};
 
-/// The line at which the judgement ends, with the number of the refusal, or 0 at a faulty line.
+/// The line at which the judgement ends, with the code of the refusal, or 0 at a faulty line.
 fn ending_of(rt: &HostRuntime, lines: &[&[u8]]) -> Option<(usize, u8)> {
     let mut judge = Judge::new(rt.alloc());
     let mut found = None;

@@ -164,7 +164,7 @@ module _ (P : Program) where
       at (x ∷ xs) zero w h = sym (append-nil (chosen_lines P (i ∷ []) H)) ∙ ap (λ (j : StepId). chosen_lines P (j ∷ []) H ++ []) h
       at (x ∷ xs) (suc n) w h = append_assoc (chosen_lines P (x ∷ []) H) (each_line (take n xs) H) (chosen_lines P (i ∷ []) H) ∙ ap (λ y. chosen_lines P (x ∷ []) H ++ y) (at xs n (omega (arith, w)) h)
 
--- the event that is read at the place of a step
+-- the event that is read at the index of a step
 pub read_as : (entries : List Entry) (at : ℕ) (e : Entry) (i : StepId) (a : Action) → at < length entries → e ≡ get_or entries at e → step_at entries at ≡ Some i → a ≡ e.event.action → record { task = i.task; action = a } ≡ e.event
 read_as entries at e i a within here step did =
     let same = inside (step_of (history_of (take at entries)) e.event) i (sym (step_read entries at e within here) ∙ step) in

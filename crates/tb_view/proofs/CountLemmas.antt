@@ -19,7 +19,7 @@ use Rattle.tb_core.proofs.RenumberLemmas.{some_entry}
 use Rattle.tb_steps.proofs.ScanLemmas.{count_front, history_more}
 use Rattle.tb_view.specs.Steps.{Counts, count_of, IsCounted, AreCounts}
 
--- one entry is written: t has taken k steps more than that
+-- one stored step is written: t has executed k steps more than that
 pub writes_count : (old new : Counts) (t : Name) (k : ℕ) → k ≡ suc (count_of old t) → ((u : Name) → lookup (same_name u) new ≡ cond (same_name t u) (Some k) (lookup (same_name u) old)) → IsCounted old t new
 writes_count old new t k is writes u = at (same_name t u) refl
   where
@@ -47,7 +47,7 @@ counts_more H v old new counts more t = at (same_name v.task t) (more t)
     at true h = h ∙ ap suc (counts t)
     at false h = h ∙ counts t
 
--- the event is that of the step at the place
+-- the event is that of the step at the index
 pub record IsReadAt (entries : List Entry) (i : ℕ) (v : Event) : Type 0 where
   pub step : Entry
   pub within : i < length entries
@@ -62,11 +62,11 @@ read_at entries i t a within task action =
     let event : Name → Action → Event = λ u b. record { task = u; action = b } in
     record { step = w.0; within = within; here = w.1; same = ap₂ event (task w.0 w.1) (action w.0 w.1) }
 
--- the history behind one entry more
+-- the history after one stored step more
 pub read_more : (entries : List Entry) (i : ℕ) (v : Event) → IsReadAt entries i v → history_of (take (i + 1) entries) ≡ v ∷ history_of (take i entries)
 read_more entries i v is = history_more entries i is.step is.within is.here ∙ ap (λ (u : Event). u ∷ history_of (take i entries)) (sym is.same)
 
--- the counts behind one entry more
+-- the counts after one stored step more
 pub counted : (entries : List Entry) (i : ℕ) (v : Event) (old new : Counts) → IsReadAt entries i v → AreCounts (history_of (take i entries)) old → IsCounted old v.task new → AreCounts (history_of (take (i + 1) entries)) new
 counted entries i v old new is counts more = subst (λ H. AreCounts H new) (sym (read_more entries i v is)) (counts_more (history_of (take i entries)) v old new counts more)
 
@@ -85,7 +85,7 @@ inserts_count old mid new t name same kept none writes =
     writes_count old new t 1 (ap (λ o. suc (unwrap_or o 0)) (sym none))
     (λ u. writes u ∙ ap₂ (λ n (m : Counts). cond (same_name n u) (Some 1) (lookup (same_name u) m)) same kept)
 
--- ---- a count that stands at a place
+-- ---- a count that is at an index
 
 -- the name there is the task's
 pub key_in : (es : Counts) (i : ℕ) (k t : Name) (v : ℕ) → slice_get es i ≡ Some (k, v) → same_name k t ≡ true → slice_get (keys_of es) i ≡ Some t

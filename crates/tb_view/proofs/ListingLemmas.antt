@@ -1,4 +1,4 @@
--- Lines told one after another, along a list.
+-- Lines written one after another, along a list.
 use Rattle.std.proofs.Common.{◌≡◌, ◌<◌, ◌≤◌, ◌+◌, ℕ, suc, List, [], ◌∷◌, ◌++◌, length, drop, refl, sym, ap, ap₂, ◌∙◌, arith, get_or, append_assoc, append-nil, length-append, drop-cons}
 use Rattle.std.specs.Prelude.{Result, Ok, Err, IfOk, codes, decimal}
 use Rattle.std.proofs.lemmas.List.{drop_all}
@@ -32,14 +32,14 @@ module _ {A : Type 0} (f : A → List (List ℕ)) where
     pub counted_more : (count n total : ℕ) → count + length (lines_of f (drop i xs)) ≡ total → n ≡ length (f x) → (count + n) + length (lines_of f (drop (i + 1) xs)) ≡ total
     counted_more count n total so_far is = omega (arith, so_far, is, ap length first, length-append (f x) (lines_of f (drop (i + 1) xs)))
 
-  -- behind the last element all is told
+  -- after the last element all is written
   pub told_all : (xs : List A) (i : ℕ) (text whole : List ℕ) → length xs ≤ i → text ++ joined (lines_of f (drop i xs)) ≡ whole → text ≡ whole
   told_all xs i text whole past so_far = sym (append-nil text) ∙ ap (λ rest. text ++ joined (lines_of f rest)) (sym (drop_all i xs past)) ∙ so_far
 
   pub counted_all : (xs : List A) (i : ℕ) (count total : ℕ) → length xs ≤ i → count + length (lines_of f (drop i xs)) ≡ total → count ≡ total
   counted_all xs i count total past so_far = omega (arith, so_far, ap (λ rest. length (lines_of f rest)) (drop_all i xs past))
 
--- the lines are those of some, which are as many and as told
+-- the lines are those of some, which are as many and as given
 pub listed_so : {E : Type 0} (word : List ℕ) (all some : List (List ℕ)) (count : ℕ) (text : List ℕ) (r : Result (List ℕ) E) → all ≡ some → count ≡ length some → text ≡ joined some
     → IfOk r (λ t. t ≡ line (word ++ codes " " ++ decimal count) ++ text) → IfOk r (λ t. t ≡ listed word all)
 listed_so word all some count text (Ok t) a n e h = h ∙ ap₂ (λ m l. line (word ++ codes " " ++ decimal m) ++ l) (n ∙ ap length (sym a)) (e ∙ ap joined (sym a))

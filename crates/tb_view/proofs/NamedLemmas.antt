@@ -42,7 +42,7 @@ last_of_both (e ∷ xs) ys x h = one_more (xs ++ ys) (last_of_both xs ys x h)
     one_more [] g = absurd (search (g, rules))
     one_more (z ∷ zs) g = search (g, rules)
 
--- ---- where some of them stand in front of the others
+-- ---- where some of them are before the others
 
 module _ (P : Name → Type 0) where
   all_front : (xs ys : List Named) → AllByRecursion P (names_of (xs ++ ys)) → AllByRecursion P (names_of xs)
@@ -77,7 +77,7 @@ none_last (y ∷ z ∷ zs) h = let clash : z ∷ zs ≡ [] = none_last (z ∷ zs
 pub none_precede : (xs ys : List Named) (k : Name) → slice_get ys (length ys - 1) ≡ None → slice_get xs (length xs - 1) ≡ None → Precede k (names_of (xs ++ ys))
 none_precede xs ys k no_ys no_xs = subst (λ es. Precede k (names_of es)) (sym (ap₂ (λ us ws. us ++ ws) (none_last xs no_xs) (none_last ys no_ys))) tt
 
--- the last of some comes before k, and none stand behind them
+-- the last of some comes before k, and none are after them
 pub below_front : (xs ys : List Named) (x : Named) (k : Name) → Rises (names_of (xs ++ ys)) → slice_get ys (length ys - 1) ≡ None → slice_get xs (length xs - 1) ≡ Some x → name_cmp x.0 k ≡ Less
     → Precede k (names_of (xs ++ ys))
 below_front xs ys x k r none h l =
@@ -92,7 +92,7 @@ rises_either (Err x) old new k v put same r = subst (λ es. Rises (names_of es))
 
 -- ---- on both sides of a gap
 
--- the first of those after it, which are kept last first
+-- the first of those after it, which are stored last first
 pub next_is : (ys : List Named) (y : Named) (zs : List Named) → reverse ys ≡ y ∷ zs → slice_get ys (length ys - 1) ≡ Some y
 next_is ys y zs h =
     let is : ys ≡ reverse zs ++ y ∷ [] = sym (reverse-reverse ys) ∙ ap reverse h ∙ reverse-append (y ∷ []) zs in

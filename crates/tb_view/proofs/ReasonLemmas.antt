@@ -30,7 +30,7 @@ line_here P v (w ∷ later) front =
     ap (λ b. cond b (event_line P (step_of front v) w) (line_of P (step_of front v) (later ++ v ∷ front))) (later_not_step v front later w)
     ∙ line_here P v later front
 
--- the entry at its place has its line
+-- the stored step at its index has its line
 line_found : (P : Program) (entries : List Entry) (at : ℕ) (x : Entry) (i : StepId) → at < length entries → x ≡ get_or entries at x → step_at entries at ≡ Some i → line_of P i (history_of entries) ≡ event_line P i x.event
 line_found P entries at x i within here is =
     let F = history_of (take at entries) in
@@ -39,7 +39,7 @@ line_found P entries at x i within here is =
     ∙ line_here P x.event (history_of (drop (suc at) entries)) F
     ∙ ap (λ j. event_line P j x.event) same
 
--- the line of the step at a place, by the task and the action that are read there
+-- the line of the step at an index, by the task and the action that are read there
 pub line_read : (P : Program) (entries : List Entry) (at : ℕ) (i : StepId) (t : Name) (a : Action) → at < length entries → step_at entries at ≡ Some i
     → ((x : Entry) → x ≡ get_or entries at x → t ≡ x.event.task) → ((x : Entry) → x ≡ get_or entries at x → a ≡ x.event.action)
     → event_line P (record { task = t; k = i.k }) (record { task = t; action = a }) ≡ line_of P i (history_of entries)
@@ -51,14 +51,14 @@ line_read P entries at i t a within is task action =
     ∙ ap (λ (u : Name). event_line P (record { task = u; k = i.k }) x.event) mine
     ∙ sym (line_found P entries at x i within w.1 is)
 
--- a step that doesn't stand has none
+-- a step that isn't there has none
 pub line_missing : (P : Program) (i : StepId) (H : History) → stands i H ≡ false → line_of P i H ≡ []
 line_missing P i [] h = refl
 line_missing P i (v ∷ H) h =
     let o = or_parts (is_step i H v) (stands i H) h in
     ap (λ b. cond b (event_line P i v) (line_of P i H)) o.0 ∙ line_missing P i H o.1
 
--- what is written of the entries is what the session shows
+-- what is written of the stored steps is what the session shows
 module _ (s : Session) (run : Seen) (entries : List Entry) (leaves : events run ≡ history s) (shows : map departure (reverse entries) ≡ run.steps) (id : StepId) (items seen : List Cause)
     (are : items ≡ reverse (immediate_of id (events run))) (all : seen ≡ items) where
   pub causes_shown : (P : Program) → P ≡ s.program → causes_text P (history_of entries) seen ≡ causes_text s.program (history s) (reverse (immediate_of id (history s)))

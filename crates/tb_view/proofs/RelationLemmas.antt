@@ -1,4 +1,4 @@
--- The siblings of a task by their numbers, in the place of all steps that spawn one.
+-- The siblings of a task by their ordinals, instead of all steps that spawn one.
 use Rattle.std.proofs.Common.{◌≡◌, ◌≢◌, ℕ, zero, suc, List, [], ◌∷◌, ◌++◌, Bool, true, false, ◌&&◌, ◌||◌, drop, cond, refl, sym, ap, ap₂, ◌∙◌, subst, append-nil, append_assoc, ◌+◌, nat_lt, length, length-append, arith, Option, Some, None, unwrap_or, if◌then◌else◌}
 use Rattle.std.specs.Prelude.{codes}
 use Rattle.std.proofs.lemmas.Bool.{true≢false, false_from_ne_true, and_right}
@@ -92,7 +92,7 @@ children_counted cells H p o n l is e = e ∙ ap (λ x. unwrap_or x 0) is ∙ at
     at true q = refl
     at false q = sym (none_acted p H (acted_spawned cells H p l) q)
 
--- behind the last child the lines are those of the whole history
+-- after the last child the lines are those of the whole history
 pub whole_history : (cells : Cells) (H : History) (t : Name) (n : ℕ) → Legal cells H → n ≡ spawn_count (own (drop 1 t) H) → lines_upto H t n ≡ lines_among H t H
 whole_history cells H t n l e = ap (lines_upto H t) e ∙ sym (by_children cells H t H l)
 

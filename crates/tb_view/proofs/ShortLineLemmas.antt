@@ -1,4 +1,4 @@
--- What stands in a line after a piece was put in front of it.
+-- What is in a line after a piece was put in front of it.
 use Rattle.std.proofs.Common.{◌≡◌, ℕ, ◌+◌, ◌-◌, ◌≤◌, List, [], ◌∷◌, ◌++◌, ℤ, length, take, drop, get_or, refl, ap, sym, ◌∙◌, arith, append_assoc, append-nil, take-append-drop, codes}
 use Rattle.std.proofs.lemmas.List.{drop_more, drop_all}
 use Rattle.std.specs.Fmt.{signed_decimal}

@@ -1,4 +1,4 @@
--- What is written of the entries of a core is what the session shows.
+-- What is written of the stored steps of a core is what the session shows.
 use Rattle.std.proofs.Common.{◌≡◌, ℕ, List, Bool, true, false, map, reverse, refl, sym, ap, ap₂, ◌∙◌, subst, cond, Result, Ok, Err, IfOk, Some, None}
 use Rattle.std.proofs.lemmas.List.{reverse-reverse}
 use Rattle.tb_model.specs.declared.step_id.StepId.{StepId}
@@ -30,7 +30,7 @@ module _ (s : Session) (run : Seen) (entries : List Entry) (leaves : events run 
   seen_are : seen ≡ reverse (found id (history s))
   seen_are = all ∙ are ∙ ap (λ H. reverse (found id H)) leaves
 
-  -- the steps that were found are steps of the entries
+  -- the steps that were found are steps of the stored steps
   pub steps_of : ((H : History) → AreStepsOf (found id H) H) → AreStepsOf (reverse seen) (history_of entries)
   steps_of each =
       subst (λ H. AreStepsOf (reverse seen) H) (sym (entries_are s run entries leaves shows))
@@ -41,7 +41,7 @@ module _ (s : Session) (run : Seen) (entries : List Entry) (leaves : events run 
       ap (λ (Q : Program). chosen_text word Q seen (history_of entries)) program
       ∙ ap₂ (λ S H. chosen_text word s.program S H) seen_are (entries_are s run entries leaves shows)
 
--- ---- a step stands
+-- ---- a step is there
 
 module _ (s : Session) (run : Seen) (id : StepId) (leaves : events run ≡ history s) where
   stands_then : (b : Bool) → (b ≡ false → ⊥) → b ≡ true

@@ -1,4 +1,5 @@
--- How far a task is, told by its count of steps, whether it has ended, and the line that it keeps.
+-- How far a task is, known by its count of steps, whether it has ended, and the line that it
+-- retains.
 use Rattle.std.proofs.Common.{◌≡◌, ◌≢◌, ℕ, suc, List, [], ◌∷◌, ◌&&◌, ◌||◌, Bool, true, false, cond, length, map, refl, sym, ap, ◌∙◌, subst, arith, ℤ, Option, Some, None, codes, ◌++◌}
 use Rattle.std.specs.Fmt.{decimal}
 use Rattle.std.specs.List.{list_any}
@@ -81,7 +82,7 @@ under_way (Test b) acts o = refl
 under_way End acts o = absurd (false≢true (sym o))
 under_way Fault acts o = absurd (false≢true (sym o))
 
--- an end and a fault leave the task where it stands
+-- an end and a fault leave the task where it is
 stays : (i : Instr) (k : Place) (a : Action) → is_end a ≡ true → moved i k a ≡ k
 stays i k Start h = absurd (false≢true h)
 stays i k (Let r x) h = absurd (false≢true h)
@@ -98,7 +99,7 @@ stays i k Fault h = refl
 
 -- ---- a task that is over
 
--- what a core tells of a task that is there
+-- what a core says of a task that is there
 pub is_known : {A : Type 0} (b : Bool) (x y : A) (o : Option A) → o ≡ cond b (Some x) None → o ≡ Some y → y ≡ x
 is_known true x y o e h = cc
 is_known false x y o e h = cc
@@ -107,7 +108,7 @@ pub is_absent : {A : Type 0} (b : Bool) (x : A) (o : Option A) → o ≡ cond b 
 is_absent true x o e h = cc
 is_absent false x o e h = refl
 
--- its state by the statement at which it stands
+-- a task's state, by the statement at which it is
 abbrev IsTold : Program → Name → History → Type 0
 IsTold P t H = status_of (own t H) ≡ cond (is_last (instr_at P (situation P t H).line).statement) Ended Faulted
 
@@ -155,7 +156,7 @@ module _ (P : Program) (run : Seen) (t : Name) (f : Fits P run) where
   pending_by [] e z = ap (λ own_acts. status_text at (status_of own_acts)) e
   pending_by (a ∷ own_acts) e z = absurd (omega arith)
 
-  -- who has taken no step
+  -- who has executed no step
   pub no_step : length acts ≡ 0 → state_text P (history run) t ≡ codes "pending"
   no_step z = pending_by acts refl z
 
@@ -181,6 +182,6 @@ module _ (P : Program) (run : Seen) (t : Name) (f : Fits P run) where
       ap (status_text at) (ended_status P t (history run) f.legal done ∙ ap (λ n. cond (is_last (instr_at P n).statement) Ended Faulted) (sym (stands_at P run t f)) ∙ ap (λ x. cond x Ended Faulted) (sym e))
       ∙ text_over at b
 
--- its numbers are those of the definitions
+-- the numbers of a task that are shown are those of the definitions
 pub own_numbers : (P : Program) (run : Seen) (t : Name) → numbers_text (config_of run t).steps (config_of run t).regs (length (open_groups (own t (history run)))) ≡ own_text P (history run) t
 own_numbers P run t = ap (λ regs. numbers_text (length (own t (history run))) regs (length (open_groups (own t (history run))))) (holds_registers P run t)

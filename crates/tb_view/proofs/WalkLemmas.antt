@@ -1,4 +1,4 @@
--- Steps told one after another, along the entries.
+-- Steps written one after another, along the stored steps.
 use Rattle.std.proofs.Common.{◌≡◌, ◌<◌, ◌≤◌, ◌+◌, ◌-◌, ◌⊎◌, inl, inr, ℕ, suc, List, [], ◌∷◌, ◌++◌, Bool, true, false, ◌&&◌, ◌||◌, ◌==◌, cond, nat_le, length, take, drop, reverse, refl, sym, ap, ap₂, ◌∙◌, subst, arith, append_assoc, append-nil, ne_eqb, eq-eqb}
 use Rattle.std.proofs.lemmas.Bool.{or_parts, and_from}
 use Rattle.std.proofs.lemmas.Bool.Decides.{nat_tests}
@@ -37,7 +37,7 @@ told_more P entries i v counts head text text' is are so_far grows =
     grows ∙ ap₂ (λ x (n : StepId). x ++ event_line P n v) so_far (is_its F v counts are) ∙ append_assoc head (history_lines P F) (step_line P F v)
     ∙ ap (λ H. head ++ history_lines P H) (sym (read_more entries i v is))
 
--- the text with one line more, where the entry is one of the newest
+-- the text with one line more, where the stored step is one of the newest
 pub newest_more : (P : Program) (entries : List Entry) (i first : ℕ) (v : Event) (counts : Counts) (head text text' : List ℕ) → IsReadAt entries i v
     → AreCounts (history_of (take i entries)) counts → text ≡ head ++ newest_lines P (i - first) (history_of (take i entries))
     → text' ≡ text ++ cond (nat_le first i) (event_line P (counted_step counts v) v) []

@@ -21,7 +21,7 @@ abbrev pub line_if_any : Program → StepId → Option Event → List ℕ
 line_if_any P i (Some v) = event_line P i v
 line_if_any P i None = []
 
--- the line of an event that stands behind H
+-- the line of an event that is after H
 abbrev pub step_line : Program → History → Event → List ℕ
 step_line P H v = event_line P (step_of H v) v
 

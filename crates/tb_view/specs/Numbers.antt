@@ -1,10 +1,10 @@
--- The cells and the printed numbers, as text.
+-- The cells and the printed values, as text.
 use Rattle.std.specs.Prelude.{ℕ, suc, List, [], ◌∷◌, ◌++◌, ℤ, pos, length, codes, if◌then◌else◌}
 use Rattle.std.specs.Fmt.{decimal, signed_decimal}
 use Rattle.std.specs.Ordering.{int_eq}
 use Rattle.tb_view.specs.Lines.{line}
 
--- the cell's number, where it isn't 0
+-- the cell's value, where it isn't 0
 abbrev pub cell_line : ℕ → ℤ → List ℕ
 cell_line c number = if int_eq number (pos 0) then [] else line (decimal c ++ codes " " ++ signed_decimal number)
 
@@ -21,6 +21,6 @@ abbrev pub number_lines : List ℤ → List ℕ
 number_lines [] = []
 number_lines (number ∷ numbers) = line (signed_decimal number) ++ number_lines numbers
 
--- how many numbers were printed, and each on a line
+-- how many values were printed, and each on a line
 abbrev pub out_text : List ℤ → List ℕ
 out_text numbers = line (codes "out " ++ decimal (length numbers)) ++ number_lines numbers

@@ -24,7 +24,7 @@ need_text Wait = codes "wait"
 need_text Group = codes "group"
 need_text Undeferred = codes "undeferred"
 
--- the line of a step, nothing where it doesn't stand
+-- the line of a step, nothing where it isn't there
 abbrev pub line_of : Program → StepId → History → List ℕ
 line_of P i [] = []
 line_of P i (v ∷ H) = if is_step i H v then event_line P i v else line_of P i H

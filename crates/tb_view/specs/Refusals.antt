@@ -1,4 +1,4 @@
--- The refusals by their numbers.
+-- The refusals by their codes.
 use Rattle.std.specs.Prelude.{ℕ}
 use Rattle.tb_view.specs.declared.view_refusal.ViewRefusal.{ViewRefusal}
 use Rattle.tb_view.specs.declared.view_refusal.ViewRefusal.TheVariants.{Memory, NoSuchStep, NoSuchTask}

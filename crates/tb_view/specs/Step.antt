@@ -1,4 +1,4 @@
--- The text of a step: its number, a blank and what it did.
+-- The text of a step: its ordinal, a blank and what it did.
 use Rattle.std.specs.Prelude.{ℕ, List, [], ◌∷◌, ◌++◌, Bool, true, false, ◌==◌, if◌then◌else◌, ℤ, codes, decimal}
 use Rattle.std.specs.Fmt.{signed_decimal}
 use Rattle.tb_model.specs.declared.kind.Kind.{Kind}
@@ -20,7 +20,7 @@ kind_text Inout = codes "inout"
 kind_text Mutexinoutset = codes "mutexinoutset"
 kind_text Inoutset = codes "inoutset"
 
--- a cell by its number, or all memory
+-- a cell by its index, or all memory
 abbrev pub place_text : Place → List ℕ
 place_text (Cell c) = decimal c
 place_text All = codes "all"
@@ -36,7 +36,7 @@ abbrev pub args_text : List ℤ → List ℕ
 args_text [] = []
 args_text (x ∷ args) = (codes " " ++ signed_decimal x) ++ args_text args
 
--- the last word tells an undeferred task
+-- the last word says that a task is undeferred
 abbrev pub deferred_text : Bool → List ℕ
 deferred_text true = []
 deferred_text false = codes " undeferred"

@@ -39,7 +39,7 @@ abbrev pub chosen_lines : Program → List StepId → History → List ℕ
 chosen_lines P steps [] = []
 chosen_lines P steps (v ∷ H) = chosen_lines P steps H ++ (if is_among (step_of H v) steps then step_line P H v else [])
 
--- how many these are, behind the word, and the line of each
+-- how many these are, after the word, and the line of each
 abbrev pub chosen_text : List ℕ → Program → List StepId → History → List ℕ
 chosen_text word P steps H = line (word ++ codes " " ++ decimal (length steps)) ++ chosen_lines P steps H
 
@@ -48,7 +48,7 @@ abbrev pub AreStepsOf : List StepId → History → Type 0
 AreStepsOf steps [] = steps ≡ []
 AreStepsOf steps (v ∷ H) = AreStepsOf steps H ⊎ ((rest : List StepId) × (steps ≡ step_of H v ∷ rest) × AreStepsOf rest H)
 
--- ---- how many steps each task has taken
+-- ---- how many steps each task has executed
 
 abbrev pub Counts : Type 0
 Counts = List (Name × ℕ)
@@ -61,6 +61,6 @@ count_of counts t = unwrap_or (lookup (same_name t) counts) 0
 abbrev pub IsCounted : Counts → Name → Counts → Type 0
 IsCounted old t new = (u : Name) → count_of new u ≡ (if same_name t u then suc (count_of old u) else count_of old u)
 
--- these are the numbers of steps in the history
+-- these are the ordinals of steps in the history
 abbrev pub AreCounts : History → Counts → Type 0
 AreCounts H counts = (t : Name) → count_of counts t ≡ length (own t H)

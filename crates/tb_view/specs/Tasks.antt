@@ -30,7 +30,7 @@ names_of (x ∷ xs) = x.0 ∷ names_of xs
 abbrev pub Precede : Name → List Name → Type 0
 Precede t us = AllByRecursion (λ u. name_cmp u t ≡ Less) us
 
--- one task more, at its place in the order of names, where the action generates one
+-- one task more, at its index in the order of names, where the action generates one
 abbrev pub with_spawned : Action → List Named → List Named
 with_spawned (Spawn s) tasks = insert_entry name_cmp tasks s.child s.body
 with_spawned _ tasks = tasks
@@ -42,7 +42,7 @@ named_tasks root_line (v ∷ H) = with_spawned v.action (named_tasks root_line H
 
 -- ---- how far a task is
 
--- a task that is under way stands at a line
+-- a task that is under way is at a line
 abbrev pub status_text : ℕ → Status → List ℕ
 status_text at Pending = codes "pending"
 status_text at Running = codes "running " ++ decimal at
@@ -71,7 +71,7 @@ tasks_text P H = listed (codes "tasks") (lines_of (task_line P H) (named_tasks P
 
 -- ---- one task
 
--- its name, its body and its state
+-- a task's name, its body and its state
 abbrev pub head_text : Program → History → Name → List ℕ
 head_text P H t =
     line (codes "task " ++ name_text t) ++ line (codes "body " ++ body_text P (called P t H).line) ++ line (codes "state " ++ state_text P H t)
@@ -80,11 +80,11 @@ head_text P H t =
 abbrev pub numbers_text : ℕ → List ℤ → ℕ → List ℕ
 numbers_text steps regs groups = line (codes "steps " ++ decimal steps) ++ line (codes "regs" ++ args_text regs) ++ line (codes "groups " ++ decimal groups)
 
--- those of the task
+-- the count of steps, the registers and the open groups of the task
 abbrev pub own_text : Program → History → Name → List ℕ
 own_text P H t = numbers_text (length (own t H)) (situation P t H).regs (length (open_groups (own t H)))
 
--- a depend item by its type and its place
+-- a depend item by its type and its location
 abbrev pub item_line : Item → List (List ℕ)
 item_line i = (kind_text i.kind ++ codes " " ++ place_text i.place) ∷ []
 

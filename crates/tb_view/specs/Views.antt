@@ -23,7 +23,7 @@ use Rattle.tb_view.specs.Waits.{ready_text, waits_text}
 use Rattle.tb_view.specs.Relations.{deps_text}
 use Rattle.tb_view.specs.Breaks.{breaks_text}
 
--- those of these steps, listed from the newest, that a session has
+-- the text of these steps, listed from the newest, that a session has
 abbrev pub steps_text : List ℕ → Session → List StepId → List ℕ
 steps_text word s steps = chosen_text word s.program (reverse steps) (history s)
 
@@ -43,7 +43,7 @@ view_text s Waits = waits_text s.program (history s)
 view_text s (Deps t) = deps_text (history s) t
 view_text s Breaks = breaks_text s.program s.control.breakpoints.standing
 
--- the step has to stand
+-- the step has to be there
 abbrev pub unless_it_stands : Session → StepId → Option ViewRefusal
 unless_it_stands s id = if stands id (history s) then None else Some NoSuchStep
 

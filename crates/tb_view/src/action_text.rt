@@ -1,4 +1,4 @@
-//! What a step did, as text. Each piece may stand in part where memory runs out.
+//! What a step did, as text. Each piece may stay in part where memory runs out.
 
 ghost use Rattle.std.specs.Prelude.{◌≡◌, ◌++◌, OnOk, codes, decimal};
 ghost use Rattle.std.specs.Fmt.{signed_decimal};
@@ -84,7 +84,7 @@ fn append_spawn(text: &mut Draft, body: &str, spawn: &Spawn) -> Result<(), Alloc
     text.push_str(last_word(spawn.deferred))
 }
 
-/// Appends each number behind a blank.
+/// Appends each number after a blank.
 pub(crate) fn append_args(text: &mut Draft, args: &[i64]) -> Result<(), AllocError>
     ensures { OnOk result (text.new ≡ text.old ++ args_text args.now) }
 {
@@ -113,7 +113,7 @@ fn append_item(text: &mut Draft, item: &Item) -> Result<(), AllocError>
     append_place(text, item.place)
 }
 
-/// Appends a cell by its number, or that it is all memory.
+/// Appends a cell by its index, or that it is all memory.
 pub(crate) fn append_place(text: &mut Draft, place: Place) -> Result<(), AllocError>
     ensures { OnOk result (text.new ≡ text.old ++ place_text place) }
 {

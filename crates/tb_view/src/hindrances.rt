@@ -1,4 +1,4 @@
-//! What keeps a task from its step, as text.
+//! What blocks a task's step, as text.
 
 ghost use Rattle.std.specs.Prelude.{◌≡◌, ◌≤◌, ◌++◌, IfOk, IfSome, OnOk, length, codes};
 ghost use Rattle.tb_model.specs.Spelling.{name_text};
@@ -12,7 +12,8 @@ use tb_core::StepRefusal;
 use tb_draft::{Draft, ShortText};
 use tb_model::TaskName;
 
-/// Puts the line of a task, of a kind of hindrance and of the task that is in the way in front, if there is room.
+/// Puts the line of a task, of a kind of hindrance and of the task that is in the way in front, if
+/// there is capacity.
 fn put_kind(text: &mut ShortText, task: &TaskName, kind: &str, other: &TaskName) -> Option<()>
     ensures { IfSome result (λ _. text.new
         ≡ line (name_text task.now ++ codes " " ++ (kind.now ++ name_text other.now)) ++ text.old) }
@@ -61,8 +62,7 @@ fn append_kind(
     Ok(1)
 }
 
-/// Appends what keeps the task from its step, unless it has ended, and tells how many lines that
-/// took.
+/// Appends what blocks the task's step, unless it has ended, and returns how many lines that took.
 pub(crate) fn append_hindrance(
     text: &mut Draft,
     task: &TaskName,

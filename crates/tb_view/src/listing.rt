@@ -1,4 +1,4 @@
-//! Lists of lines behind a word and their number.
+//! Lists of lines after a word and their number.
 
 ghost use Rattle.std.specs.Prelude.{◌≡◌, ◌++◌, IfOk, OnOk, codes};
 ghost use Rattle.std.specs.Fmt.{decimal};

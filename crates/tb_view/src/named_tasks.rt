@@ -16,16 +16,16 @@ use tb_model::TaskName;
 /// How many tasks may pass the gap for each that is added, on the average.
 const MOVES: usize = 8;
 
-/// Tasks by their names, each with the line that begins its body. They stand in a row with a gap where the next one goes:
-/// mostly a task is generated near those before it, so that few have to pass the gap. Where too many would have to, all go
-/// into a map.
+/// Tasks by their names, each with the line that begins its body. They are in a row with a gap
+/// where the next one goes: mostly a task is generated close to those before it, so that few have
+/// to pass the gap. Where too many would have to, all go into a map.
 #[derive(Drop)]
 pub(crate) struct NamedTasks {
     alloc: Global,
     map: BTreeMap<TaskName, u32>,
-    // those after all in the map, up to the gap
+    // the tasks after all in the map, up to the gap
     front: Vec<(TaskName, u32)>,
-    // those after the gap, the first of them last
+    // the tasks after the gap, the first of them last
     back: Vec<(TaskName, u32)>,
     // so many may still pass the gap
     moves: usize,

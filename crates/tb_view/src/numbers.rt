@@ -8,7 +8,7 @@ ghost use Rattle.std.specs.Fmt.{signed_decimal};
 use std::alloc::{AllocError, Global};
 use tb_draft::Draft;
 
-/// Appends the line of a cell, where its number isn't 0.
+/// Appends the line of a cell, where its value isn't 0.
 fn append_cell(text: &mut String, cell: usize, number: i64) -> Result<(), AllocError>
     ensures { OnOk result (string_bytes text.new ≡ string_bytes text.old ++ cell_line cell number) }
 {
@@ -37,7 +37,7 @@ pub(crate) fn cells_text(alloc: Global, numbers: &[i64]) -> Result<Draft, AllocE
     Ok(Draft::of(alloc, text))
 }
 
-/// How many numbers were printed, and each on a line.
+/// How many values were printed, and each on a line.
 pub(crate) fn out_text(alloc: Global, numbers: &[i64]) -> Result<Draft, AllocError>
     ensures { IfOk result (λ text. text ≡ out_text numbers.now) }
 {

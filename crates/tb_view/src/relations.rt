@@ -1,4 +1,4 @@
-//! How a task stands to its siblings, as text.
+//! How a task relates to its siblings, as text.
 
 ghost use Rattle.std.specs.Prelude.{◌≡◌, ◌<◌, ◌≤◌, ◌++◌, IfOk, OnOk, drop, length};
 ghost use Rattle.tb_model.specs.Names.{child};
@@ -12,7 +12,7 @@ use tb_core::Core;
 use tb_draft::Draft;
 use tb_model::TaskName;
 
-/// Appends the name with the word, where the relation holds, and tells how many lines that took.
+/// Appends the name with the word, where the relation holds, and returns how many lines that took.
 fn append_where(
     text: &mut Draft,
     holds: bool,
@@ -33,8 +33,8 @@ fn append_where(
     Ok(1)
 }
 
-/// Appends whether the parent's nth child is before the task and whether the two are apart, and returns
-/// how many lines that took.
+/// Appends whether the parent's nth child is before the task and whether the two exclude each
+/// other, and returns how many lines that took.
 fn append_relations(
     text: &mut Draft,
     core: &Core,
@@ -97,7 +97,7 @@ fn append_related(text: &mut Draft, core: &Core, task: &TaskName) -> Result<usiz
     }
 }
 
-/// The siblings that are before the task, and those that are apart from it.
+/// The siblings that are before the task, and those that exclude it.
 pub(crate) fn deps_text(alloc: Global, core: &Core, task: &TaskName) -> Result<Draft, AllocError>
     ensures { IfOk result (λ text. text ≡ deps_text (history core.now.run) task.now) }
 {

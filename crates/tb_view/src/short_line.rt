@@ -12,8 +12,8 @@ use tb_draft::ShortText;
 use tb_model::{Action, Item, Place, Spawn, TaskName};
 use tb_read::Program;
 
-/// Puts the line of the kth step of a task in front, if there is room. Some of it may stand where there isn't, as with each
-/// piece.
+/// Puts the line of the kth step of a task in front, if there is capacity. Some of it may stay
+/// where there isn't, as with each piece.
 #[inline(always)]
 pub(crate) fn put_line(
     text: &mut ShortText,

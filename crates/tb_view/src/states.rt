@@ -30,8 +30,9 @@ fn ending(last: bool) -> &'static str
     if last { "ended" } else { "faulted" }
 }
 
-/// How far the task is, in a word, and the line at which it stands while it is under way. A task that is over keeps its line:
-/// an end leaves it at the end of its body, and a fault doesn't. In a walk over tasks it hands on where the last one was found.
+/// How far the task is, in a word, and the line at which it is while it is under way. A task that
+/// is over retains its line: an end leaves it at the end of its body, and a fault doesn't. In a
+/// walk over tasks it hands on where the last one was found.
 pub(crate) fn state(
     program: &Program,
     core: &Core,
@@ -42,7 +43,7 @@ pub(crate) fn state(
     ensures { state_text program.now (history core.now.run) task.now ≡ result.0.now ++ number_if_any result.1 }
 {
     let Some(standing) = core.walk_standing(near, task) else {
-        // what isn't there has taken no step
+        // what isn't there has executed no step
         return ("pending", None);
     };
     if standing.steps() == 0 {

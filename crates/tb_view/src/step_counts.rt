@@ -1,4 +1,4 @@
-//! Numbers of steps, and their lines, along a history.
+//! Ordinals of steps, and their lines, along a history.
 
 ghost use Rattle.std.specs.Prelude.{◌≡◌, ◌<◌, ◌++◌, [], IfOk, OnOk, suc};
 ghost use Rattle.tb_view.specs.Lines.{event_line};
@@ -13,11 +13,12 @@ use tb_draft::Draft;
 use tb_model::{Action, TaskName};
 use tb_read::Program;
 
-/// How many steps each task has taken so far, along a history: so each line can tell its step's number.
+/// How many steps each task has executed so far, along a history: so each line can write its step's
+/// ordinal.
 #[derive(Drop)]
 pub struct StepCounts {
     counts: IndexMap<TaskName, u32>,
-    // the place of the count that changed last
+    // the index of the count that changed last
     near: usize,
 }
 
@@ -30,7 +31,7 @@ impl Model for StepCounts {
 }
 
 impl StepCounts {
-    /// The counts where no task has taken a step. Takes no memory.
+    /// The counts where no task has executed a step. Takes no memory.
     pub fn none(alloc: Global) -> StepCounts
         ensures { result ≡ [] }
     {
@@ -40,7 +41,7 @@ impl StepCounts {
         }
     }
 
-    /// Counts one step more of the task, and tells how many that are.
+    /// Counts one step more of the task, and returns how many that are.
     #[inline(always)]
     pub(crate) fn count(&mut self, task: &TaskName) -> Result<u32, AllocError>
         requires few { count_of self.old task.now < 4294967295 }
@@ -50,8 +51,8 @@ impl StepCounts {
         count_step(&mut self.counts, &mut self.near, task)
     }
 
-    /// Appends the line of the task's next step, which has this action, and counts it. Where memory runs out a part of the
-    /// line may stand, and the step may be counted.
+    /// Appends the line of the task's next step, which has this action, and counts it. Where memory
+    /// runs out a part of the line may stay, and the step may be counted.
     #[inline(always)]
     pub fn append_next(
         &mut self,

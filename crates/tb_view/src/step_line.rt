@@ -32,7 +32,7 @@ fn spawned_name<'a>(program: &'a Program, action: &Action) -> &'a str
     }
 }
 
-/// Appends the line of the kth step of a task. Where memory runs out a part of it may stand.
+/// Appends the line of the kth step of a task. Where memory runs out a part of it may stay.
 #[inline(always)]
 pub fn append_line(
     text: &mut Draft,
@@ -54,7 +54,7 @@ pub fn append_line(
 }
 
 /// Appends the line of the kth step of a task, however long it is. Where memory runs out a part of
-/// it may stand.
+/// it may stay.
 // out of line: a short line doesn't pay for its stack frame
 #[inline(never)]
 fn append_long(

@@ -10,7 +10,7 @@ use tb_model::{Action, TaskName};
 
 /// Appends the text of the kth step of a task, without a line feed. `body` is the name of the body
 /// that a spawn names; it is read for a spawn alone. Where memory runs out a part of the text may
-/// stand.
+/// stay.
 pub fn write_step(
     text: &mut Draft,
     body: &str,

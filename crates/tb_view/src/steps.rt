@@ -42,7 +42,7 @@ pub(crate) fn history_text(
     Ok(text)
 }
 
-/// Counts the task's next step, which has this action, and appends its line where it is told.
+/// Counts the task's next step, which has this action, and appends its line where that is wanted.
 fn append_if(
     text: &mut Draft,
     program: &Program,

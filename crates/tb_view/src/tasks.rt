@@ -48,7 +48,7 @@ fn named_tasks(
     tasks.into_vec()
 }
 
-/// Puts the line of a task in front, if there is room.
+/// Puts the line of a task in front, if there is capacity.
 fn put_task(
     text: &mut ShortText,
     task: &TaskName,

@@ -15,7 +15,7 @@ pub enum ViewRefusal {
 }
 
 impl ViewRefusal {
-    /// The number by which replies name the refusal.
+    /// The code by which replies name the refusal.
     pub fn number(&self) -> u8
         ensures { result ≡ view_number self.now }
     {

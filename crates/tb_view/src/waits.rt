@@ -16,7 +16,7 @@ use tb_draft::{Draft, ShortText};
 use tb_live::Live;
 use tb_model::TaskName;
 
-/// Puts the line of the task's name in front, if there is room.
+/// Puts the line of the task's name in front, if there is capacity.
 fn put_name(text: &mut ShortText, task: &TaskName) -> Option<()>
     ensures { IfSome result (λ _. text.new ≡ line (name_text task.now) ++ text.old) }
 {
@@ -33,7 +33,7 @@ fn append_long(text: &mut Draft, task: &TaskName) -> Result<(), AllocError>
     text.push('\n')
 }
 
-/// Appends the task's name on a line, and tells that it took one.
+/// Appends the task's name on a line, and returns that it took one.
 fn append_name(text: &mut Draft, task: &TaskName) -> Result<usize, AllocError>
     ensures text { OnOk result (text.new ≡ text.old ++ line (name_text task.now)) }
     ensures count { IfOk result (λ n. n ≡ 1) }
@@ -46,7 +46,7 @@ fn append_name(text: &mut Draft, task: &TaskName) -> Result<usize, AllocError>
     Ok(1)
 }
 
-/// Appends the task's name, where it can step, and tells how many lines that took.
+/// Appends the task's name, where it can step, and returns how many lines that took.
 fn append_ready(
     text: &mut Draft,
     live: &Live,
@@ -65,7 +65,7 @@ fn append_ready(
     }
 }
 
-/// Appends what the task waits for, if it waits, and tells how many lines that took.
+/// Appends what the task waits for, if it waits, and returns how many lines that took.
 fn append_wait(
     text: &mut Draft,
     live: &Live,

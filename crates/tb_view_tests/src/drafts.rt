@@ -69,7 +69,7 @@ fn text_of(rt: &(impl Abort + AllocGlobal), name: &TaskName) -> String {
     text
 }
 
-/// What a sink with so much room takes of the draft.
+/// What a sink with so much capacity takes of the draft.
 fn written(rt: &(impl Abort + AllocGlobal), draft: &Draft, room: usize) -> Taken {
     let mut sink = Taken {
         bytes: Vec::new(rt.alloc()),

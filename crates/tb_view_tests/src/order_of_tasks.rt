@@ -1,4 +1,5 @@
-//! That `tasks` lists tasks in the order of their names, in whichever order they were generated.
+//! Tests that `tasks` lists tasks in the order of their names, in whichever order they were
+//! generated.
 
 use crate::views::shows;
 use std::alloc::{AllocError, AllocGlobal, Global};

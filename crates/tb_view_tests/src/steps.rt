@@ -93,7 +93,7 @@ fn steps_are_read_as_they_are_printed(rt: HostRuntime) {
     }
 }
 
-/// The names are less, equal or greater as their places.
+/// The names are less, equal or greater as their indexes.
 fn compare_order(rt: &impl Abort, a: &TaskName, b: &TaskName, places: (usize, usize)) {
     let (i, j) = places;
     assert_eq!(rt; a.cmp(b), i.cmp(&j));
@@ -135,7 +135,7 @@ fn parent_of(rt: &impl Abort, name: &TaskName) -> Option<TaskName> {
     name.parent().expect(rt, "memory is there")
 }
 
-/// A name that is deeper than those that are kept without memory.
+/// A name that is deeper than those that are stored without memory.
 fn deep_name(rt: &(impl Abort + AllocGlobal)) -> TaskName {
     let mut deep = TaskName::root(rt.alloc());
     for n in 1..12u32 {

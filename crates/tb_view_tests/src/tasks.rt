@@ -1,4 +1,4 @@
-//! That the views of tasks are shown: one task in each state, and one behind each hindrance.
+//! Tests that the views of tasks are shown: one task in each state, and one after each hindrance.
 
 ghost use Rattle.std.specs.Prelude.{◌≤◌};
 
@@ -93,7 +93,7 @@ const TEXTS: [(&str, &str, &str); 12] = [
     ),
 ];
 
-/// A run whose journal is full behind the steps above.
+/// A run whose journal is full after the steps above.
 fn opened(alloc: Global) -> Option<Live> {
     let program = match read(alloc, PROGRAM) {
         Ok(program) => program,

@@ -1,4 +1,4 @@
-//! That views are shown, and when they aren't.
+//! Tests that views are shown, and when they aren't.
 
 ghost use Rattle.std.specs.Prelude.{◌≤◌};
 

@@ -45,7 +45,7 @@ later_from t g [] n l = or_left (nat_lt g n && same_name t t) _ (and_from (nat_l
 later_from t g (m ∷ x) n l = or_right (nat_lt g m && same_name t (x ++ n ∷ t)) _ (later_from t g x n l)
 
 module _ (table : Table) (names : List Name) (slots : List Slot) (nodes : Nodes) (room : ℕ) (v : record { tasks = zip names slots; room = room } ≡ table) (f : Fits names slots nodes) where
-  -- who stands and isn't over has a node that says so
+  -- who is there and isn't over has a node that says so
   record Stands (u : Name) : Type 0 where
     index : ℕ
     within : index < length names
@@ -126,7 +126,7 @@ module _ (table : Table) (names : List Name) (slots : List Slot) (nodes : Nodes)
           (m.0, m.1, omega (arith, m.2, s.2));
     }
 
-    -- whether the child of one number stands and isn't over
+    -- whether the child of one ordinal is there and isn't over
     abbrev asked : ℕ → Bool
     asked m = option_map_or (λ i. (node nodes i).pending) (slice_get (node nodes at).places m) false
 
@@ -164,7 +164,8 @@ module _ (table : Table) (names : List Name) (slots : List Slot) (nodes : Nodes)
     member_no_group e = record { found = λ u g. cc; least = λ u h. let is = group_here u h in let clash : None ≡ Some h.1 = sym e ∙ is in cc }
 
     module _ (g : ℕ) (is_group : first_of (groups_of (slot_at slots at).kin) ≡ Some g) (knows : KnowsLiveBut nodes 0) where
-      -- a member that stands and isn't over is within a child of t with a number above the group's
+      -- a member that is there and isn't over is within a child of t with an ordinal above the
+      -- group's
       record Member (m : Name) : Type 0 where
         index : ℕ
         within : index < length names

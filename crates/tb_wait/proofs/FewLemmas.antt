@@ -1,4 +1,4 @@
--- A word as a set of numbers, and a set in two parts.
+-- A word as a set of ordinals, and a set in two parts.
 use Rattle.std.proofs.Common.{◌≡◌, ◌≢◌, ℕ, zero, suc, ◌+◌, ◌-◌, ◌/◌, ◌^◌, ◌<◌, ◌≤◌, List, [], ◌∷◌, ◌++◌, Bool, true, false, cond, ◌||◌, ◌&&◌, ◌%◌, ◌==◌, nat_lt, nat_eq, Option, Some, None, refl, sym, ap, ◌∙◌, subst, arith, inl, inr, eqb-true, eq-eqb, w64, shr-shr}
 use Rattle.std.proofs.lemmas.Nat.{shr_le}
 use Rattle.std.specs.Int.{bit_at, trailing_zeros}
@@ -48,7 +48,7 @@ none_held (suc k) = at (none_held k) (bit_at 0 k == 1) refl
     at h true t = absurd (omega (arith, bit_at-zero k, eqb-true (bit_at 0 k) 1 t))
     at h false t = h
 
--- a number below 64 is held where its bit is set, and no other number is
+-- an ordinal below 64 is held where its bit is set, and no other ordinal is
 pub has_held : (word n : ℕ) → n < 64 → has (held word) n ≡ (bit_at word n == 1)
 unfolding held
 has_held word n l = held_at word 64 n l
@@ -99,7 +99,7 @@ held_put old new n there l here others m = at (nat_lt m 64) refl (n == m) refl
     at false t true e = let more : 64 ≤ m = grind (arith, nat_tests) in absurd (omega (arith, eqb-true n m e))
     at false t false e = let more : 64 ≤ m = grind (arith, nat_tests) in held_few new m more ∙ sym (held_few old m more)
 
--- the bits above a number stand at the beginning of the word that is moved down by one more
+-- the bits above an ordinal are at the beginning of the word that is moved down by one more
 module _ (word low : ℕ) (fits : word < 2 ^ 64) where
   abbrev left : ℕ
   left = word / 2 ^ (low + 1)

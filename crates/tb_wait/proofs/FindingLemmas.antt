@@ -1,4 +1,4 @@
--- The way down the tree by the numbers of a name leads to the name's place.
+-- The way down the tree by the ordinals of a name leads to the name's index.
 use Rattle.std.proofs.Common.{◌≡◌, ℕ, suc, ◌-◌, ◌<◌, ◌≤◌, List, [], ◌∷◌, ◌++◌, Some, None, length, take, drop, get_or, refl, sym, ap, ◌∙◌, subst, arith, append_assoc}
 use Rattle.std.proofs.Math.Seq.{drop-cons, drop-length}
 use Rattle.std.proofs.lemmas.List.{take-append-drop}
@@ -8,7 +8,7 @@ use Rattle.tb_wait.specs.Rows.{key, Fits, IsPlaceOf}
 use Rattle.tb_wait.specs.Tree.{Nodes, IsPlace}
 use Rattle.tb_wait.proofs.SearchLemmas.{above, ancestor}
 
--- from the task at `start` all but so many of these numbers were passed, and led to `at`
+-- from the task at `start` all but so many of these ordinals were passed, and led to `at`
 pub record IsReached (names : List Name) (start : ℕ) (numbers : Name) (left at : ℕ) : Type 0 where
   pub within : at < length names
   pub named : key names at ≡ drop left numbers ++ key names start
@@ -26,7 +26,7 @@ module _ (names : List Name) (slots : List Slot) (nodes : Nodes) (f : Fits names
   reached_first start numbers w = record { within = w; named = ap (λ l. l ++ key names start) (sym (drop-length numbers)) }
 
   module _ (start at left : ℕ) (numbers : Name) (r : IsReached names start numbers left at) (some : 0 < left) (few : left ≤ length numbers) (n d : ℕ) (is : n ≡ get_or numbers (left - 1) d) where
-    -- the next number, and those that were passed
+    -- the next ordinal, and those that were passed
     next : drop (left - 1) numbers ++ key names start ≡ n ∷ key names at
     next =
         ap (λ l. l ++ key names start) (drop-cons numbers (left - 1) d (omega (arith, some, few)))

@@ -18,7 +18,7 @@ use Rattle.tb_model.proofs.AlikeLemmas.{spawned_alike}
 use Rattle.tb_wait.specs.Kin.{Kin, Tasks, kin, fresh, with_over, with_children, one_more, one_less, opened_kin, unopened_kin, closed_kin, unclosed_kin, rest_of, IsNext, IsLast, HasOpenGroup}
 use Rattle.tb_wait.specs.Histories.{kin_by, kin_from, kin_of, AreKin, ChangesBy, ChangesBackBy}
 
--- ---- what is kept of a task, read off its own actions
+-- ---- what is stored of a task, read off its own actions
 
 pub counted : (acts : List Action) → (kin_from acts).children ≡ spawn_count acts
 counted [] = refl
@@ -88,7 +88,7 @@ back_again cells t acts End h o = alive_back (kin_from acts) (o h)
 back_again cells t acts Fault h o = alive_back (kin_from acts) (o h)
 back_again cells t acts _ h o = refl
 
--- ---- what a task has behind a change of the table, whatever the action
+-- ---- what a task has after a change of the table, whatever the action
 
 same_kin : (b : Bool) (o : Option Kin) → o ≡ cond b (option_map (λ k. k) o) o
 same_kin true None = refl
@@ -111,7 +111,7 @@ changed_back t End old new h u = h u
 changed_back t Fault old new h u = h u
 changed_back t _ old new h u = h u ∙ same_kin (same_name t u) (kin old u)
 
--- ---- what a history keeps of a task
+-- ---- what a history retains of a task
 
 pub kin_stands : (H : History) (t : Name) → IsSpawned H t → kin_of H t ≡ Some (kin_from (own t H))
 kin_stands H t s = ap (λ b. cond b (Some (kin_from (own t H))) None) s

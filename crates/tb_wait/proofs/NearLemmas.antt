@@ -1,4 +1,4 @@
--- A name that stands at a place of a list of distinct names is found there.
+-- A name that is at an index of a list of distinct names is found there.
 use Rattle.std.proofs.Common.{◌≡◌, ◌+◌, ◌<◌, ◌++◌, ◌||◌, ℕ, zero, suc, Bool, true, false, not, cond, List, [], ◌∷◌, Option, Some, None, length, slice_get, refl, sym, ap, ◌∙◌, subst, arith, unwrap_or, nat_lt, lt-ltb}
 use Rattle.std.specs.List.{position, position_or_len, list_any, IsDistinct, AllByRecursion}
 use Rattle.std.proofs.lemmas.Option.{slice_get_within, slice_get-get_or, get_or_from_slice_get}
@@ -25,13 +25,13 @@ first_at t (x ∷ names) (suc i) d e =
     let other : same_name t x ≡ false = false_from_ne_true (same_name t x) (λ h. false≢true (sym apart ∙ subst (λ y. same_name x y ≡ true) (sym (same_true t x h)) (same_refl x))) in
     ap (λ b. cond (not b) (1 + position_or_len (same_name t) names) 0) other ∙ ap (λ n. 1 + n) (first_at t names i d.1 e) ∙ omega arith
 
--- the place of the name
+-- the index of the name
 position_at : (t : Name) (names : List Name) (i : ℕ) → IsDistinct same_name names → slice_get names i ≡ Some t → position (same_name t) names ≡ Some i
 position_at t names i d e =
     let within = slice_get_within names i t e in
     ap (λ n. cond (nat_lt n (length names)) (Some n) None) (first_at t names i d e) ∙ ap (λ b. cond b (Some i) None) (lt-ltb i (length names) within)
 
--- so it is there
+-- a name at an index is there
 any_at : (t : Name) (names : List Name) (i : ℕ) → slice_get names i ≡ Some t → list_any (same_name t) names ≡ true
 any_at t names i e =
     list_any_at (same_name t) names i t (slice_get_within names i t e)
@@ -61,7 +61,7 @@ pub distinct_one : (names : List Name) (t : Name) → names ≡ t ∷ [] → IsD
 unfolding IsDistinct
 distinct_one names t e = subst (IsDistinct same_name) (sym e) (tt, tt)
 
--- ---- the place that the tree leads to
+-- ---- the index that the tree leads to
 
 none_at : (t : Name) (names : List Name) → ((i : ℕ) → i < length names → key names i ≡ t → ⊥) → list_any (same_name t) names ≡ false
 none_at t [] n = refl
@@ -81,11 +81,11 @@ none_position : (t : Name) (names : List Name) → list_any (same_name t) names 
 none_position t names h =
     ap (λ n. cond (nat_lt n (length names)) (Some n) None) (none_len t names h) ∙ ap (λ b. cond b (Some (length names)) None) (le-ltb (length names) (length names) (omega arith))
 
--- a name that stands at a place is found there
+-- a name that is at an index is found there
 pub here_found : (t : Name) (names : List Name) (i : ℕ) → IsDistinct same_name names → slice_get names i ≡ Some t → IsFirstPlace names t (Some i)
 here_found t names i d e = record { index = sym (position_at t names i d e); found = sym (any_at t names i e); within = slice_get_within names i t e }
 
--- a name whose place the tree tells is found there
+-- a name whose index the tree says is found there
 pub place_found : (t : Name) (names : List Name) (o : Option ℕ) → IsDistinct same_name names → IsPlaceOf names t o → IsFirstPlace names t o
 place_found t names None d p =
     let absent = none_at t names (λ i. p.absent refl i []) in

@@ -1,4 +1,4 @@
--- A rising list of numbers as a set.
+-- A rising list of ordinals as a set.
 use Rattle.std.proofs.Common.{◌≡◌, ℕ, zero, suc, ◌+◌, ◌<◌, ◌≤◌, List, [], ◌∷◌, ◌++◌, drop, Bool, true, false, cond, ◌||◌, ◌==◌, nat_lt, Option, Some, None, length, get_or, refl, sym, ap, ◌∙◌, subst, arith, ⊎_elim, eqb-true, eq-eqb, nat_eq, Result, Ok, Err, OnErr, OnOk, IsOk, IsSome, OnSome}
 use Rattle.std.specs.List.{insert, remove}
 use Rattle.std.proofs.lemmas.Bool.{false≢true, or_cases, or_left, or_right}
@@ -55,14 +55,14 @@ has_at [] k d n l e = absurd (omega (arith, l))
 has_at (x ∷ xs) zero d n l e = or_left (x == n) (has xs n) (eq-eqb x n e)
 has_at (x ∷ xs) (suc k) d n l e = or_right (x == n) (has xs n) (has_at xs k d n (omega (arith, l)) e)
 
--- a number below the first isn't there
+-- an ordinal below the first isn't there
 none_low : (low : ℕ) (xs : List ℕ) (high n : ℕ) → Rises low xs high → n ≤ low → has xs n ≡ false
 none_low low [] high n r l = refl
 none_low low (x ∷ xs) high n r l =
     let first : (x == n) ≡ false = grind (arith, nat_tests, r.0) in
     ap (λ b. b || has xs n) first ∙ none_low x xs high n r.1 (omega (arith, r.0))
 
--- where a number would stand: it is there just where it stands there
+-- where an ordinal would be: it is there just where it is there
 there : (low : ℕ) (xs : List ℕ) (high n d : ℕ) → Rises low xs high → has xs n ≡ true → (below n xs < length xs) × (get_or xs (below n xs) d ≡ n)
 there low [] high n d r h = absurd (false≢true h)
 there low (x ∷ xs) high n d r h = at (λ g. there x xs high n d r.1 g) (nat_lt x n) refl
@@ -227,7 +227,7 @@ remove_rises xs n high r = subst (λ l. Rises 0 l high) (sym (remove_is_cut n xs
 pub remove_puts : (xs : List ℕ) (n high : ℕ) → Rises 0 xs high → has xs n ≡ true → IsPut xs n false (remove xs (below n xs))
 remove_puts xs n high r h = subst (IsPut xs n false) (sym (remove_is_cut n xs)) (cut_has 0 n xs high r h)
 
--- nothing changes where it is as told already
+-- nothing changes where it is as given already
 pub put_same : (xs : List ℕ) (n : ℕ) (b : Bool) → has xs n ≡ b → IsPut xs n b xs
 put_same xs n b e m = at (n == m) refl
   where

@@ -1,4 +1,4 @@
--- The place of a name, where one name more comes last, and whether it is known.
+-- The index of a name, where one name more comes last, and whether it is known.
 use Rattle.std.proofs.Common.{◌≡◌, ◌<◌, ◌+◌, ◌++◌, ℕ, zero, suc, Bool, true, false, cond, List, [], ◌∷◌, Option, Some, None, is_some, length, get_or, nat_lt, refl, sym, ap, ◌∙◌, arith, lt-ltb, ⊎_elim}
 use Rattle.std.specs.Prelude.{position}
 use Rattle.std.specs.Map.{keys_of, lookup}
@@ -54,7 +54,7 @@ module _ (p : Name → Bool) (ks : List Name) (c : Name) where
           (λ high. let last : j ≡ length ks = omega (arith, high, f.0, long) in false≢true (sym (ap p (ap (λ k. get_or (ks ++ c ∷ []) k []) last ∙ get_or-append_seam ks c [] []) ∙ other) ∙ f.1))
           (cases_lt j (length ks)))
 
--- a name with a place is known
+-- a name with an index is known
 is_there : (es : Tasks) (t : Name) (i : ℕ) → i < length es → same_name t (get_or (keys_of es) i []) ≡ true → is_known es t ≡ true
 is_there [] t i w e = absurd (omega (arith, w))
 is_there (x ∷ es) t zero w e = ap (λ b. is_some (cond b (Some x.1) (lookup (same_name t) es))) e
@@ -73,7 +73,7 @@ unknown_place es t h = at (place es t) refl
         let f = position-Some (same_name t) (keys_of es) i [] e in
         absurd (false≢true (sym h ∙ is_there es t i (omega (arith, f.0, length-map es (λ e. e.0))) f.1))
 
--- a known name has a place
+-- a known name has an index
 pub known_place : (es : Tasks) (t : Name) → is_known es t ≡ true → is_some (place es t) ≡ true
 known_place es t h = at (place es t) refl
   where

@@ -79,7 +79,7 @@ same_names names old new l m = keys_of-zip names new m ∙ sym (keys_of-zip name
 pub keep_names : (tasks : Tasks) → KeepsNames tasks tasks
 keep_names tasks = ([], sym (append-nil (keys_of tasks)))
 
--- the very names keep their places, and so they do where one comes last
+-- the very names retain their indexes, and so they do where one comes last
 pub names_kept : (a b : Tasks) → HasSameNames a b → KeepsNames a b
 names_kept a b e = ([], e ∙ sym (append-nil (keys_of a)))
 
@@ -152,7 +152,7 @@ no_changes names slots t f n u = by (same_name t u) refl
 
 -- ---- rows and nodes
 
--- the row counts as many children, and its task stands or not, as before
+-- the row counts as many children, and its task is there or not, as before
 pub record IsLike (s r : Slot) : Type 0 where
   pub stands : is_some r.kin ≡ is_some s.kin
   pub children : children_of r.kin ≡ children_of s.kin
@@ -256,7 +256,7 @@ is_none_reverse xs = by (reverse xs) (length-reverse xs)
     by [] e = sym (eq-eqb (length xs) 0 (sym e))
     by (y ∷ ys) e = sym (ne_eqb (length xs) 0 (λ z. omega (arith, e, z)))
 
--- a node got room for more children, and its row tells of one
+-- a node got capacity for more children, and its row has one
 module _ (names : List Name) (old new : List Slot) (nodes after : Nodes) (f : Fits names old nodes) (r : SameButRoom nodes after) where
   pub fits_room : length new ≡ length old → ((i : ℕ) → (slot_at new i).kin ≡ (slot_at old i).kin) → ((i : ℕ) → (slot_at new i).child_room ≤ (node after i).room) → Fits names new after
   fits_room len kins rooms = record {

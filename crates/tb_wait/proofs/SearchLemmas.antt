@@ -62,7 +62,7 @@ pub head_is : {m n : ℕ} {s t : Name} → m ∷ s ≡ n ∷ t → m ≡ n
 head_is e = cc
 
 module _ (names : List Name) (slots : List Slot) (nodes : Nodes) (f : Fits names slots nodes) where
-  -- what is named as a child isn't the root, and stands below its parent
+  -- what is named as a child isn't the root, and is below its parent
   pub record Above (j : ℕ) (t : Name) (n : ℕ) : Type 0 where
     pub parent : ℕ
     pub place : ℕ
@@ -127,7 +127,8 @@ module _ (names : List Name) (slots : List Slot) (nodes : Nodes) (f : Fits names
         numbered = a.numbered;
       }
 
-  -- so far: each task within `start` that hasn't ended is within the one at `at`, or comes behind all of that
+  -- so far: each task within `start` that hasn't ended is within the one at `at`, or comes after
+  -- all of that
   abbrev pub IsSoFar : ℕ → ℕ → Type 0
   IsSoFar start at = (j : ℕ) (x : Name) → j < length names → key names j ≡ x ++ key names start → (node nodes j).pending ≡ true
       → ((y : Name) × (key names j ≡ y ++ key names at)) ⊎ ((y : Name) → IsAtMost (y ++ key names at) (key names j))

@@ -1,4 +1,4 @@
--- A child that comes to stand, or stands no longer, by name.
+-- A child that comes to be, or is no longer there, by name.
 use Rattle.std.proofs.Common.{◌≡◌, ◌≢◌, ℕ, zero, suc, ◌+◌, ◌-◌, ◌<◌, ◌≤◌, List, [], ◌∷◌, ◌++◌, Bool, true, false, not, cond, ◌&&◌, ◌==◌, nat_lt, Option, Some, None, is_some, IsTrue, ◌↔◌, option_map, length, slice_get, get_or, refl, sym, ap, ap₂, ◌∙◌, subst, arith, eqb-true, eq-eqb, length-append, ◌⊎◌, inl, inr, ⊎_elim, Result, Ok, Err, OnOk, IfOk}
 use Rattle.std.specs.Map.{keys_of}
 use Rattle.std.specs.List.{zip, position, list_any}
@@ -25,7 +25,7 @@ tail_is e = cc
 some_kin : {j k : Kin} → Some j ≡ Some k → j ≡ k
 some_kin e = cc
 
--- ---- the child's place in the tree
+-- ---- the child's index in the tree
 
 module _ (before : Table) (names : List Name) (old : List Slot) (nodes : Nodes) (room : ℕ) (v : record { tasks = zip names old; room = room } ≡ before) (f : Fits names old nodes)
     (p c : Name) (at n : ℕ) (within : at < length names) (named : key names at ≡ c) (child : c ≡ suc n ∷ p) where
@@ -68,7 +68,7 @@ module _ (before : Table) (names : List Name) (old : List Slot) (nodes : Nodes) 
   child_kin = sym (ap kin_in (slot_of_key c names old at f.distinct f.slots_len within named)) ∙ ap (λ b. kin b.tasks c) v
 
   module _ (parent : Kin) (is_parent : kin before.tasks p ≡ Some parent) where
-    -- the next child doesn't stand yet
+    -- the next child isn't there yet
     pub next_is_absent : parent.children ≡ n → (slot_at old at).kin ≡ None
     next_is_absent e = by (slot_at old at).kin refl
       where
@@ -91,7 +91,7 @@ module _ (before : Table) (names : List Name) (old : List Slot) (nodes : Nodes) 
           ∙ ap₂ (λ a b. cond (same_name a u) k (cond (same_name b u) (option_map (with_children children) (kin (zip names old) u)) (kin (zip names old) u))) named owner_name
           ∙ ap (λ x. cond (same_name c u) k (cond (same_name p u) (option_map (with_children children) (kin x.tasks u)) (kin x.tasks u))) v
 
-      -- where the number of children is what the change of the parent makes it
+      -- where the count of children is what the change of the parent makes it
       by_change : (g : Kin → Kin) → with_children children parent ≡ g parent → (u : Name) → cond (same_name p u) (option_map (with_children children) (kin before.tasks u)) (kin before.tasks u)
           ≡ cond (same_name p u) (option_map g (kin before.tasks u)) (kin before.tasks u)
       by_change g e u = by (same_name p u) refl
@@ -156,7 +156,7 @@ module _ (before : Table) (names : List Name) (old : List Slot) (nodes : Nodes) 
 pub unknown_slot : (tasks : Tasks) (t : Name) → slot tasks t ≡ None → is_known tasks t ≡ true → ⊥
 unknown_slot tasks t e h = false≢true (sym (ap is_some e) ∙ h)
 
--- ---- a place for a name that was never there
+-- ---- an index for a name that was never there
 
 get_or-front : {A : Type 0} (xs : List A) (y d : A) (i : ℕ) → i < length xs → get_or (xs ++ y ∷ []) i d ≡ get_or xs i d
 get_or-front [] y d i w = absurd (omega (arith, w))
@@ -177,7 +177,7 @@ module _ (names : List Name) (old : List Slot) (nodes : Nodes) (f : Fits names o
   nowhere : (i : ℕ) → i < length names → key names i ≡ c → ⊥
   nowhere i w e = let is : Some (slot_at old i) ≡ None = sym (slot_of_key c names old i f.distinct f.slots_len w e) ∙ unknown in cc
 
-  -- so the parent's children are those that stand
+  -- so the parent's children are those that are there
   all_stand : parent.children ≡ length (node nodes owner).places
   all_stand = by (nat_lt parent.children (length (node nodes owner).places)) refl
     where
@@ -221,7 +221,7 @@ module _ (names : List Name) (old : List Slot) (nodes : Nodes) (f : Fits names o
     slot_last : slot_at new (length names) ≡ blank
     slot_last = get_or-last mid blank blank (length names) (sym mid_len)
 
-    -- a row is as before, but for the room of the owner's
+    -- a row is as before, but for the capacity of the owner's
     kin_mid : (i : ℕ) → (slot_at mid i).kin ≡ (slot_at old i).kin
     kin_mid i = by (i == owner) refl
       where
@@ -333,7 +333,7 @@ module _ (names : List Name) (old : List Slot) (nodes : Nodes) (f : Fits names o
         not_below : (k : ℕ) → k ≡ parent.children → false ≡ nat_lt k parent.children
         not_below k e = grind (arith, nat_tests, e)
 
-    -- what is kept of each task is as before
+    -- what is stored of each task is as before
     pub pushed_kin : (u : Name) → kin (zip names' new) u ≡ kin (zip names old) u
     pushed_kin u = by (slot (zip names old) u) refl
       where
@@ -366,7 +366,7 @@ inserted names after c h e = e ∙ ap (λ b. cond b names (names ++ c ∷ [])) h
 pub none_known : (names : List Name) (slots : List Slot) (c : Name) → length slots ≡ length names → slot (zip names slots) c ≡ None → list_any (same_name c) names ≡ false
 none_known names slots c l e = known_any c names slots l ∙ ap is_some e
 
--- a table with the same tasks comes to stand as the other
+-- a table with the same tasks comes to be as the other
 pub adds_after : (a b d : Tasks) (p c : Name) → IsSame a b → Adds b p c d → Adds a p c d
 adds_after a b d p c s h u = h u ∙ ap (λ k. cond (same_name c u) (Some fresh) (cond (same_name p u) (option_map one_more k) k)) (s u)
 
@@ -388,20 +388,20 @@ module _ (before : Table) (names : List Name) (old : List Slot) (nodes : Nodes) 
   next_here p c owner e n =
       (n.0, sym (ap kin_in (here_slot before names old nodes room v f p owner e)) ∙ n.1, n.2 ∙ ap (λ t. suc n.0.children ∷ t) (sym (at_key p names owner e).1))
 
--- ---- what a task that stands says of its children
+-- ---- what a task that is there says of its children
 
 pub kin_from_children : (o : Option Kin) (n : ℕ) → Some n ≡ option_map (λ (k : Kin). k.children) o → (k : Kin) × (o ≡ Some k) × (k.children ≡ n)
 kin_from_children None n e = cc
 kin_from_children (Some k) n e = (k, refl, cc)
 
--- the child behind the last is the next
+-- the child after the last is the next
 pub next_from_children : (tasks : Tasks) (p c : Name) (n : ℕ) → Some n ≡ option_map (λ (k : Kin). k.children) (kin tasks p) → c ≡ (n + 1) ∷ p → IsNext tasks p c
 next_from_children tasks p c n e h =
     let k = kin_from_children (kin tasks p) n e in
     let number : n + 1 ≡ suc k.0.children = omega (arith, k.2) in
     (k.0, k.1, h ∙ ap (λ m. m ∷ p) number)
 
--- a task of which nothing is kept is a fresh one
+-- a task of which nothing is retained is a fresh one
 pub fresh_is : (o : Option Kin) → is_fresh o ≡ true → o ≡ Some fresh
 fresh_is None e = cc
 fresh_is (Some k) e = by k.over (k.children == 0) refl k.groups k.shut e
@@ -425,14 +425,14 @@ last_from_children tasks p c n e z h g =
     by zero e z = absurd (z e)
     by (suc m) e z = omega (arith, e)
 
--- ---- whether a child was ever generated, by its number
+-- ---- whether a child was ever generated, by its ordinal
 
 module _ (before : Table) (names : List Name) (old : List Slot) (nodes : Nodes) (room : ℕ) (v : record { tasks = zip names old; room = room } ≡ before) (f : Fits names old nodes)
     (p c : Name) (owner n : ℕ) (within : owner < length names) (named : key names owner ≡ p) (child : c ≡ n ∷ p) where
   abbrev HasPlace : ℕ → Type 0
   HasPlace m = (0 < m) × (m ≤ length (node nodes owner).places)
 
-  -- the child at a place is known
+  -- the child at an index is known
   placed : (k : ℕ) → n ≡ suc k → HasPlace n → is_some (slot (zip names old) c) ≡ true
   placed k e h =
       let places = (node nodes owner).places in
@@ -443,7 +443,7 @@ module _ (before : Table) (names : List Name) (old : List Slot) (nodes : Nodes) 
       let name : key names i ≡ c = f.child owner k i place ∙ ap₂ (λ m q. m ∷ q) (sym e) named ∙ sym child in
       ap is_some (slot_of_key c names old i f.distinct f.slots_len there name)
 
-  -- and one that is known has its place
+  -- and one that is known has its index
   has_place : (s : Slot) → slot (zip names old) c ≡ Some s → HasPlace n
   has_place s e = by (key_of_slot c names old s e) n refl
     where
@@ -479,7 +479,7 @@ module _ (before : Table) (names : List Name) (old : List Slot) (nodes : Nodes) 
           none zero z h = omega (arith, z, h.0)
           none (suc k) z h = false≢true (sym (ap is_some e) ∙ placed k z h)
 
--- the number of a task's child
+-- the ordinal of a task's child
 pub child_number : (t u : Name) → is_child t u ≡ true → (n : ℕ) × (u ≡ n ∷ t)
 child_number t [] h = absurd (false≢true h)
 child_number t (n ∷ q) h = (n, ap (λ w. n ∷ w) (same_true q t h))

@@ -29,7 +29,7 @@ module _ (nodes : Nodes) (l : IsLinked nodes) (at : ℕ) (b : 0 < at) (w : at < 
       let s = slice_get_within (node nodes (node nodes at).owner).places up.0 at up.2 in
       subst (λ j. number ≤ length (node nodes j).places) (sym o) (omega (arith, up.1, e, s))
 
-  -- the place of a child is its own
+  -- the index of a child is its own
   pub only_place : (j k i : ℕ) → IsPlace nodes j k i → j ≡ (node nodes at).owner → suc k ≡ (node nodes at).number → i ≡ at
   only_place j k i p o e =
       let up = l.up at b w in
@@ -380,7 +380,7 @@ module _ (old new : Nodes) (owner : ℕ) (linked : IsLinked old) (within : owner
               near_by true g = grind (arith, nat_tests)
               near_by false g = absurd (n (grind (arith, nat_tests, c.len)))
 
-  -- a set of the node that isn't its places or its room
+  -- a set of the node that isn't its indexes or its capacity
   unended_stays : (j m : ℕ) → j < length old → has (node new j).unended m ≡ has (node old j).unended m
   unended_stays j m w = node_else (λ p q. has q.unended m ≡ has p.unended m) j w (ap (λ n. has n.unended m) c.above) (λ n. refl)
 
@@ -431,7 +431,7 @@ module _ (old new : Nodes) (owner : ℕ) (linked : IsLinked old) (within : owner
               let far : length new ≤ j = grind (arith, nat_tests, c.len) in
               absurd (false≢true (sym (ap (λ xs. has xs m) (ap field (get_or-eq_default new (leaf 0 0) far) ∙ blank)) ∙ h))
 
--- ---- room
+-- ---- capacity
 
 pub linked_room : (old new : Nodes) → SameButRoom old new → IsLinked old → IsLinked new
 linked_room old new s linked = record {

@@ -16,9 +16,9 @@ use Rattle.tb_wait.specs.Kin.{Kin, Tasks, kin, rest_of, first_of, IsUnended, IsU
 use Rattle.tb_wait.specs.Histories.{kin_from, AreKin}
 use Rattle.tb_wait.proofs.HistoryLemmas.{counted, depth, over_from, kin_stands}
 
--- ---- what stands
+-- ---- what is there
 
--- who stands was generated, and what is kept of it is read off its actions
+-- who is there was generated, and what is stored of it is read off its actions
 record Stands (H : History) (t : Name) (k : Kin) : Type 0 where
   spawned : IsSpawned H t
   is : k ≡ kin_from (own t H)
@@ -60,7 +60,7 @@ unended_child H tasks t u st =
 
 -- ---- members
 
--- for each open group, by the number of its step, how many children the task had generated
+-- for each open group, by the ordinal of its step, how many children the task had generated
 abbrev AreAt : List Action → List ℕ → List ℕ → Type 0
 AreAt acts [] gs = gs ≡ []
 AreAt acts (k ∷ ks) [] = ⊥
@@ -91,7 +91,7 @@ groups_at (Close ∷ acts) =
     at_rest (Close ∷ acts) (open_groups acts) (kin_from acts).groups (at_more Close acts (open_groups acts) (kin_from acts).groups (groups_at acts))
 groups_at (a ∷ acts) = at_more a acts (open_groups acts) (kin_from acts).groups (groups_at acts)
 
--- the members of the innermost open group by the number that is kept of it
+-- the members of the innermost open group by the ordinal that is stored of it
 abbrev ByNumber : Name → List ℕ → Name → Type 0
 ByNumber t gs m = (n : ℕ) × (first_of gs ≡ Some n) × (is_later t n m ≡ true)
 

@@ -53,7 +53,7 @@ links_all : (nodes : Nodes) → SameLinks nodes nodes
 links_all nodes = record { len = refl; owner = λ i. refl; number = λ i. refl; places = λ i. refl; room = λ i. refl }
 
 module _ (before : Table) (names : List Name) (old : List Slot) (nodes : Nodes) (room : ℕ) (v : record { tasks = zip names old; room = room } ≡ before) (f : Fits names old nodes) (t : Name) where
-  -- its place among all names
+  -- its index among all names
   pub here_place : position (same_name t) names ≡ place before.tasks t
   here_place = ap (position (same_name t)) (sym (keys_of-zip names old f.slots_len)) ∙ ap (λ b. place b.tasks t) v
 
@@ -150,9 +150,9 @@ pub kin_same : (o : Option Kin) → option_map (λ k. k) o ≡ o
 kin_same None = refl
 kin_same (Some k) = refl
 
--- ---- a task that comes to stand, or stands no longer
+-- ---- a task that comes to be, or is no longer there
 
--- the number of children changes by the one child with this place alone
+-- the count of children changes by the one child with this index alone
 pub record CountsOne (place before after : ℕ) (stands : Bool) : Type 0 where
   pub one : nat_lt place after ≡ stands
   pub others : (k : ℕ) → k ≢ place → nat_lt k after ≡ nat_lt k before
@@ -289,7 +289,7 @@ fits_root = record {
     rooms zero = omega arith
     rooms (suc i) = omega arith
 
--- ---- room for one more child
+-- ---- capacity for one more child
 
 module _ (before : Table) (names : List Name) (old : List Slot) (nodes : Nodes) (room : ℕ) (v : record { tasks = zip names old; room = room } ≡ before) (f : Fits names old nodes) (t : Name)
     (at : ℕ) (is : Some at ≡ position (same_name t) names) where

@@ -6,7 +6,7 @@ use Rattle.tb_model.specs.Names.{Name}
 use Rattle.tb_model.specs.Facts.{History, own, is_spawned}
 use Rattle.tb_wait.specs.Kin.{Kin, Tasks, kin, fresh, with_over, one_more, opened_kin, unopened_kin, closed_kin, unclosed_kin, Changes, IsSame, Adds, Drops}
 
--- what an action changes of what is kept of its own task
+-- what an action changes of what is stored of its own task
 abbrev pub kin_by : Action → Kin → Kin
 kin_by (Spawn s) k = one_more k
 kin_by Open k = opened_kin k
@@ -15,12 +15,12 @@ kin_by End k = with_over true k
 kin_by Fault k = with_over true k
 kin_by _ k = k
 
--- what is kept of a task with these actions, the newest first
+-- what is stored of a task with these actions, the newest first
 abbrev pub kin_from : List Action → Kin
 kin_from [] = fresh
 kin_from (a ∷ acts) = kin_by a (kin_from acts)
 
--- what is kept of t behind H, and None where t wasn't generated
+-- what is stored of t after H, and None where t wasn't generated
 abbrev pub kin_of : History → Name → Option Kin
 kin_of H t = if is_spawned H t then Some (kin_from (own t H)) else None
 

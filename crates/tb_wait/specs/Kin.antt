@@ -1,20 +1,21 @@
--- What a contract sees of the table of waits: what it keeps of each task that stands.
+-- What a contract sees of the table of waits: what it retains of each task that is there.
 use Rattle.std.specs.Prelude.{◌≡◌, ◌≢◌, ◌<◌, ◌≤◌, ◌-◌, ◌⊎◌, ℕ, suc, Bool, true, false, not, ◌&&◌, List, [], ◌∷◌, Option, Some, None, is_some, if◌then◌else◌, ◌==◌, ◌++◌, position}
 use Rattle.std.specs.Option.{option_map}
 use Rattle.std.specs.Map.{lookup, keys_of}
 use Rattle.tb_model.specs.Names.{Name, child, same_name, is_child}
 use Rattle.tb_model.specs.Siblings.{is_later}
 
--- what is kept of a task: whether it is over, the number of its last child, and what that number was at the beginning of each
--- open group, the innermost first, and of each closed group, the last closed first
+-- what is stored of a task: whether it is over, the ordinal of its last child, and what that
+-- ordinal was at the beginning of each open group, the innermost first, and of each closed group,
+-- the last closed first
 pub record Kin : Type 0 where
   pub over : Bool
   pub children : ℕ
   pub groups : List ℕ
   pub shut : List ℕ
 
--- a task that was ever generated: what is kept of it while it stands, and how many more children and groups of it fit with
--- no memory
+-- a task that was ever generated: what is stored of it while it is there, and how many more
+-- children and groups of it fit with no memory
 pub record Slot : Type 0 where
   pub kin : Option Kin
   pub child_room : ℕ
@@ -36,11 +37,11 @@ abbrev pub kin_in : Option Slot → Option Kin
 kin_in None = None
 kin_in (Some s) = s.kin
 
--- what is kept of t, and None where t doesn't stand
+-- what is stored of t, and None where t isn't there
 abbrev pub kin : Tasks → Name → Option Kin
 kin tasks t = kin_in (slot tasks t)
 
--- t was ever generated, so it has its room
+-- t was ever generated, so it has its capacity
 abbrev pub is_known : Tasks → Name → Bool
 is_known tasks t = is_some (slot tasks t)
 
@@ -79,7 +80,7 @@ unclosed_kin k = record k { groups = moved k.shut k.groups; shut = rest_of k.shu
 
 -- ---- changes of the table
 
--- this task's part changes so, where it stands, and no other's
+-- this task's part changes so, where it is, and no other's
 abbrev pub Changes : Tasks → Name → (Kin → Kin) → Tasks → Type 0
 Changes old t f new = (u : Name) → kin new u ≡ (if same_name t u then option_map f (kin old u) else kin old u)
 
@@ -94,21 +95,21 @@ one_more k = with_children (suc k.children) k
 abbrev pub one_less : Kin → Kin
 one_less k = with_children (k.children - 1) k
 
--- the child c of p comes to stand
+-- the child c of p comes to be
 abbrev pub Adds : Tasks → Name → Name → Tasks → Type 0
 Adds old p c new = (u : Name) →
     kin new u ≡ (if same_name c u then Some fresh else if same_name p u then option_map one_more (kin old u) else kin old u)
 
--- the child c of p stands no longer
+-- the child c of p is no longer there
 abbrev pub Drops : Tasks → Name → Name → Tasks → Type 0
 Drops old p c new = (u : Name) →
     kin new u ≡ (if same_name c u then None else if same_name p u then option_map one_less (kin old u) else kin old u)
 
--- p stands, and c is the next child that it generates
+-- p is there, and c is the next child that it generates
 abbrev pub IsNext : Tasks → Name → Name → Type 0
 IsNext tasks p c = (k : Kin) × (kin tasks p ≡ Some k) × (c ≡ suc k.children ∷ p)
 
--- p stands, and c is its last child, of which nothing is kept yet
+-- p is there, and c is its last child, of which nothing is retained yet
 abbrev pub IsLast : Tasks → Name → Name → Type 0
 IsLast tasks p c = (k : Kin) × (n : ℕ) × (kin tasks p ≡ Some k) × (k.children ≡ suc n) × (c ≡ suc n ∷ p) × (kin tasks c ≡ Some fresh)
 
@@ -116,11 +117,11 @@ IsLast tasks p c = (k : Kin) × (n : ℕ) × (kin tasks p ≡ Some k) × (k.chil
 abbrev pub place : Tasks → Name → Option ℕ
 place tasks t = position (same_name t) (keys_of tasks)
 
--- a name that was once there keeps its place: others come after it
+-- a name that was once there retains its index: others come after it
 abbrev pub KeepsNames : Tasks → Tasks → Type 0
 KeepsNames old new = (more : List Name) × (keys_of new ≡ keys_of old ++ more)
 
--- the very names, each at its place
+-- the very names, each at its index
 abbrev pub HasSameNames : Tasks → Tasks → Type 0
 HasSameNames old new = keys_of new ≡ keys_of old
 
@@ -128,30 +129,31 @@ HasSameNames old new = keys_of new ≡ keys_of old
 abbrev pub names_with : Tasks → Name → List Name
 names_with tasks c = if is_known tasks c then keys_of tasks else keys_of tasks ++ c ∷ []
 
--- at least the room of the one row is there in the other
+-- at least the capacity of the one row is there in the other
 abbrev pub IsRoomIn : Slot → Option Slot → Type 0
 IsRoomIn s None = ⊥
 IsRoomIn s (Some r) = (s.child_room ≤ r.child_room) × (s.group_room ≤ r.group_room)
 
--- nothing loses its room, neither the table nor a task, and the names are those that there were
+-- nothing loses its capacity, neither the table nor a task, and the names are those that there were
 pub record KeepsRoom (old new : Table) : Type 0 where
   pub names : HasSameNames old.tasks new.tasks
   pub room : old.room ≤ new.room
   pub slots : (t : Name) (s : Slot) → slot old.tasks t ≡ Some s → IsRoomIn s (slot new.tasks t)
 
--- t, where it was ever generated, has room for one more group
+-- t, where it was ever generated, has capacity for one more group
 abbrev pub HasGroupRoom : Tasks → Name → Type 0
 HasGroupRoom tasks t = (s : Slot) → slot tasks t ≡ Some s → 0 < s.group_room
 
--- t, where it was ever generated, has room for one more child
+-- t, where it was ever generated, has capacity for one more child
 abbrev pub HasChildRoom : Tasks → Name → Type 0
 HasChildRoom tasks t = (s : Slot) → slot tasks t ≡ Some s → 0 < s.child_room
 
--- there is room for the child c of p: its name was once there, or there is room for one more name and for one more child of p
+-- there is capacity for the child c of p: its name was once there, or there is capacity for one
+-- more name and for one more child of p
 abbrev pub HasRoomFor : Table → Name → Name → Type 0
 HasRoomFor w p c = (is_known w.tasks c ≡ true) ⊎ ((0 < w.room) × HasChildRoom w.tasks p)
 
--- t stands in an open group
+-- t is in an open group
 abbrev pub HasOpenGroup : Tasks → Name → Type 0
 HasOpenGroup tasks t = (k : Kin) × (kin tasks t ≡ Some k) × (k.groups ≢ [])
 
@@ -159,14 +161,14 @@ abbrev pub is_none : List ℕ → Bool
 is_none [] = true
 is_none (n ∷ ns) = false
 
--- the task stands, and nothing is kept of it yet
+-- the task is there, and nothing is stored of it yet
 abbrev pub is_fresh : Option Kin → Bool
 is_fresh None = false
 is_fresh (Some k) = (not k.over && (k.children == 0)) && (is_none k.groups && is_none k.shut)
 
 -- ---- who isn't done
 
--- t stands and isn't over
+-- t is there and isn't over
 abbrev pub IsUnended : Tasks → Name → Type 0
 IsUnended tasks t = (k : Kin) × (kin tasks t ≡ Some k) × (k.over ≡ false)
 
@@ -174,12 +176,12 @@ IsUnended tasks t = (k : Kin) × (kin tasks t ≡ Some k) × (k.over ≡ false)
 abbrev pub IsUnendedChild : Tasks → Name → Name → Type 0
 IsUnendedChild tasks t u = (is_child t u ≡ true) × IsUnended tasks u
 
--- the least number above `low` of an unended child of t, and None exactly where there is none
+-- the least ordinal above `low` of an unended child of t, and None exactly where there is none
 pub record IsNextUnended (tasks : Tasks) (t : Name) (low : ℕ) (o : Option ℕ) : Type 0 where
   pub found : (n : ℕ) → o ≡ Some n → (low < n) × IsUnendedChild tasks t (child t n)
   pub least : (n : ℕ) → low < n → IsUnendedChild tasks t (child t n) → (m : ℕ) × (o ≡ Some m) × (m ≤ n)
 
--- m is an unended child of t with a number above n, or an unended descendant of such a child
+-- m is an unended child of t with an ordinal above n, or an unended descendant of such a child
 abbrev pub IsUnendedLater : Tasks → Name → ℕ → Name → Type 0
 IsUnendedLater tasks t n m = (is_later t n m ≡ true) × IsUnended tasks m
 

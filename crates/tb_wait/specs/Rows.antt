@@ -10,7 +10,7 @@ abbrev pub kin_if : Bool → Kin → Option Kin
 kin_if true k = Some k
 kin_if false k = None
 
--- the task stands and isn't over
+-- the task is there and isn't over
 abbrev pub is_pending : Option Kin → Bool
 is_pending None = false
 is_pending (Some k) = not k.over
@@ -23,7 +23,7 @@ abbrev pub groups_of : Option Kin → List ℕ
 groups_of None = []
 groups_of (Some k) = k.groups
 
--- a task that was just generated and doesn't stand yet has room for a group
+-- a task that was just generated and isn't there yet has capacity for a group
 abbrev pub blank : Slot
 blank = record { kin = None; child_room = 0; group_room = 1 }
 
@@ -52,14 +52,15 @@ pub record ChangesSlot (old : List Slot) (at : ℕ) (s : Slot) (new : List Slot)
   pub here : slot_at new at ≡ s
   pub others : (i : ℕ) → i ≢ at → slot_at new i ≡ slot_at old i
 
--- the task at this index comes to stand, or stands no longer, and its parent's row has this number of children
+-- the task at this index comes to be, or is no longer there, and its parent's row has this count of
+-- children
 pub record SetsStanding (old : List Slot) (at owner : ℕ) (k : Option Kin) (children : ℕ) (new : List Slot) : Type 0 where
   pub len : length new ≡ length old
   pub here : slot_at new at ≡ record (slot_at old at) { kin = k }
   pub above : slot_at new owner ≡ record (slot_at old owner) { kin = option_map (with_children children) (slot_at old owner).kin }
   pub others : (i : ℕ) → i ≢ at → i ≢ owner → slot_at new i ≡ slot_at old i
 
--- the task at i is the least within the one at `start` that stands and hasn't ended
+-- the task at i is the least within the one at `start` that is there and hasn't ended
 pub record IsFirstWithin (names : List Name) (nodes : Nodes) (start i : ℕ) : Type 0 where
   pub below : (x : Name) × (key names i ≡ x ++ key names start)
   pub least : (j : ℕ) (x : Name) → j < length names → key names j ≡ x ++ key names start → (node nodes j).pending ≡ true → IsAtMost (key names i) (key names j)
@@ -68,7 +69,7 @@ pub record IsFirstWithin (names : List Name) (nodes : Nodes) (start i : ℕ) : T
 abbrev pub AreNamed : List Name → Nodes → Type 0
 AreNamed names nodes = (slots : List Slot) × Fits names slots nodes
 
--- o is the place of t, and None where neither t nor a task within it was ever generated
+-- o is the index of t, and None where neither t nor a task within it was ever generated
 pub record IsPlaceOf (names : List Name) (t : Name) (o : Option ℕ) : Type 0 where
   pub found : (i : ℕ) → o ≡ Some i → (i < length names) × (key names i ≡ t)
   pub absent : o ≡ None → (i : ℕ) (x : Name) → i < length names → key names i ≡ x ++ t → ⊥

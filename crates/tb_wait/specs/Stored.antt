@@ -1,4 +1,4 @@
--- Where the groups of a task stand. No public clause cites this module.
+-- Where the groups of a task are. No public clause cites this module.
 use Rattle.std.specs.Prelude.{[], ◌∷◌}
 use Rattle.std.specs.Box.{box_value}
 use Rattle.tb_wait.specs.Groups.{Groups}

@@ -1,12 +1,13 @@
--- The tree of the tasks that were ever generated, by their places in a list: who hasn't ended, and below whom.
--- No public clause cites this module.
+-- The tree of the tasks that were ever generated, by their indexes in a list: who hasn't ended, and
+-- below whom. No public clause cites this module.
 use Rattle.std.specs.Prelude.{◌≡◌, ◌≢◌, ◌<◌, ◌≤◌, ◌+◌, ◌-◌, ◌++◌, ℕ, suc, Bool, true, false, not, ◌||◌, List, [], ◌∷◌, Option, Some, None, length, slice_get, slice_index_or, Box}
 use Rattle.std.specs.Box.{box_value}
 use Rattle.tb_wait.specs.Numbers.{has, is_empty}
 
--- the place of the parent, the number among its children, whether the task stands and hasn't ended, the places of the
--- children by their numbers, the numbers of those that haven't ended, the numbers of those within which some task hasn't
--- ended, and how many more children fit with no memory
+-- the index of the parent, the ordinal among its children, whether the task is there and hasn't
+-- ended, the indexes of the children by their ordinals, the ordinals of those that haven't ended,
+-- the ordinals of those within which some task hasn't ended, and how many more children fit with no
+-- memory
 pub record Node : Type 0 where
   pub owner : ℕ
   pub number : ℕ
@@ -38,7 +39,7 @@ Nodes = List Node
 abbrev pub leaf : ℕ → ℕ → Node
 leaf owner number = record { owner = owner; number = number; pending = false; places = []; unended = []; live = []; room = 0 }
 
--- the node at a place
+-- the node at an index
 abbrev pub node : Nodes → ℕ → Node
 node nodes i = slice_index_or nodes i (leaf 0 0)
 
@@ -85,7 +86,7 @@ pub record Tree : Type 0 where
   pub nodes : Nodes
   pub room : ℕ
 
--- both have the same tasks with the same children
+-- the two trees have the same tasks with the same children
 pub record SameLinks (old new : Nodes) : Type 0 where
   pub len : length new ≡ length old
   pub owner : (i : ℕ) → (node new i).owner ≡ (node old i).owner
@@ -98,7 +99,7 @@ pub record SameButLive (old new : Nodes) : Type 0 where
   pub len : length new ≡ length old
   pub same : (i : ℕ) → node new i ≡ record (node old i) { live = (node new i).live }
 
--- the node at x stands and hasn't ended just where the flag is set, and the others as before
+-- the node at x is there and hasn't ended just where the flag is set, and the others as before
 pub record SetsPending (old : Nodes) (x : ℕ) (pending : Bool) (new : Nodes) : Type 0 where
   pub links : SameLinks old new
   pub set : (node new x).pending ≡ pending
@@ -109,7 +110,7 @@ pub record SameButUnended (old new : Nodes) : Type 0 where
   pub len : length new ≡ length old
   pub same : (i : ℕ) → node new i ≡ record (node old i) { unended = (node new i).unended }
 
--- nothing but who stands and hasn't ended has changed
+-- nothing but who is there and hasn't ended has changed
 pub record SameButPending (old new : Nodes) : Type 0 where
   pub len : length new ≡ length old
   pub same : (i : ℕ) → node new i ≡ record (node old i) { pending = (node new i).pending }
@@ -121,7 +122,7 @@ pub record AddsNode (old : Nodes) (owner : ℕ) (new : Nodes) : Type 0 where
   pub above : node new owner ≡ record (node old owner) { places = (node old owner).places ++ length old ∷ []; room = (node old owner).room - 1 }
   pub others : (i : ℕ) → i ≢ length old → i ≢ owner → node new i ≡ node old i
 
--- nothing but room has changed, and no node has less of it
+-- nothing but capacity has changed, and no node has less of it
 pub record SameButRoom (old new : Nodes) : Type 0 where
   pub len : length new ≡ length old
   pub same : (i : ℕ) → node new i ≡ record (node old i) { room = (node new i).room }
@@ -132,11 +133,12 @@ pub record IsFirstPlace (nodes : Nodes) (j low : ℕ) (test : Node → Bool) (o 
   pub found : (i : ℕ) → o ≡ Some i → (k : ℕ) × (low ≤ k) × IsPlace nodes j k i × (test (node nodes i) ≡ true)
   pub least : (k i : ℕ) → low ≤ k → IsPlace nodes j k i → test (node nodes i) ≡ true → (m c : ℕ) × (o ≡ Some c) × IsPlace nodes j m c × (m ≤ k)
 
--- o is the least number above `low` of a child of the node at j whose node passes, and None exactly where none does
+-- o is the least ordinal above `low` of a child of the node at j whose node passes, and None
+-- exactly where none does
 pub record IsNextNumber (nodes : Nodes) (j low : ℕ) (test : Node → Bool) (o : Option ℕ) : Type 0 where
   pub found : (n : ℕ) → o ≡ Some n → (k i : ℕ) × (n ≡ suc k) × (low ≤ k) × IsPlace nodes j k i × (test (node nodes i) ≡ true)
   pub least : (k i : ℕ) → low ≤ k → IsPlace nodes j k i → test (node nodes i) ≡ true → (m : ℕ) × (o ≡ Some m) × (m ≤ suc k)
 
--- the node's own task stands and hasn't ended
+-- the node's own task is there and hasn't ended
 abbrev pub is_own : Node → Bool
 is_own n = n.pending

@@ -9,10 +9,10 @@ use smallvec::SmallVec;
 use std::alloc::{AllocError, Global};
 use std::marker::Model;
 
-/// The places of a task's children, and which of them haven't ended.
+/// The indexes of a task's children, and which of them haven't ended.
 #[derive(Drop)]
 pub(crate) struct Children {
-    // up to two stand here: most tasks that generate any generate few
+    // up to two are here: most tasks that generate any generate few
     places: SmallVec<usize, 2>,
     unended: Numbers,
     live: Numbers,
@@ -33,7 +33,7 @@ impl Model for Children {
 }
 
 impl Children {
-    /// No children, and room for those whose places stand in it.
+    /// No children, and capacity for those whose indexes are in it.
     pub(crate) fn new(alloc: Global) -> Children
         ensures { result ≡ record childless { room = 2 } }
     {
@@ -45,14 +45,14 @@ impl Children {
         }
     }
 
-    /// Whether within none of them a task stands that hasn't ended.
+    /// Whether within none of them a task is there that hasn't ended.
     pub(crate) fn is_done(&self) -> bool
         ensures { result ≡ is_empty self.now.live }
     {
         self.live.is_empty()
     }
 
-    /// The place of the child of this number.
+    /// The index of the child of this ordinal.
     pub(crate) fn place(&self, number: u32) -> Option<usize>
         requires { 0 < number }
         ensures { result ≡ slice_get self.now.places (number - 1) }
@@ -67,7 +67,7 @@ impl Children {
         self.places.len()
     }
 
-    /// Makes room for one more child.
+    /// Reserves capacity for one more child.
     pub(crate) fn reserve(&mut self) -> Result<(), AllocError>
         ensures ok { OnOk result (0 < self.new.room) }
         ensures same { self.new ≡ record self.old { room = self.new.room } }
@@ -79,7 +79,7 @@ impl Children {
             self.unended.reserve(len)?;
             self.live.reserve(len)?;
             self.places.reserve(1)?;
-            // for all that there is room for, so that mostly the next call has nothing to do
+            // for all that there is capacity for, so that mostly the next call has nothing to do
             let bound = self.unended.bound().min(self.live.bound());
             let most = self.places.capacity().min(bound);
             self.room = most.saturating_sub(self.places.len());
@@ -87,7 +87,7 @@ impl Children {
         Ok(())
     }
 
-    /// One more child, at this place.
+    /// One more child, at this index.
     pub(crate) fn push(&mut self, place: usize)
         requires { 0 < self.old.room }
         ensures { self.new ≡ record self.old { places = self.old.places ++ place ∷ []; room = self.old.room - 1 } }
@@ -96,7 +96,7 @@ impl Children {
         self.room -= 1;
     }
 
-    /// Sets whether the child of this number hasn't ended.
+    /// Sets whether the child of this ordinal hasn't ended.
     pub(crate) fn set_unended(&mut self, number: u32, unended: bool)
         requires from_one { 0 < number }
         requires child { number ≤ length self.old.places }
@@ -106,7 +106,7 @@ impl Children {
         self.unended.set(number, unended);
     }
 
-    /// Sets whether some task within the child of this number hasn't ended.
+    /// Sets whether some task within the child of this ordinal hasn't ended.
     pub(crate) fn set_live(&mut self, number: u32, live: bool)
         requires from_one { 0 < number }
         requires child { number ≤ length self.old.places }
@@ -116,21 +116,21 @@ impl Children {
         self.live.set(number, live);
     }
 
-    /// Whether some task within the child of this number hasn't ended.
+    /// Whether some task within the child of this ordinal hasn't ended.
     pub(crate) fn has_live(&self, number: u32) -> bool
         ensures { result ≡ has self.now.live number }
     {
         self.live.has(number)
     }
 
-    /// The least number above `low` of a child that hasn't ended.
+    /// The least ordinal above `low` of a child that hasn't ended.
     pub(crate) fn first_unended(&self, low: u32) -> Option<u32>
         ensures { IsNextAbove self.now.unended low result }
     {
         self.unended.next_above(low)
     }
 
-    /// The least number above `low` of a child within which some task hasn't ended.
+    /// The least ordinal above `low` of a child within which some task hasn't ended.
     pub(crate) fn first_live(&self, low: u32) -> Option<u32>
         ensures { IsNextAbove self.now.live low result }
     {

@@ -1,17 +1,17 @@
-//! A set of small numbers.
+//! A set of small ordinals.
 
 ghost use Rattle.std.specs.Prelude.{◌≡◌, ◌<◌, []};
 ghost use Rattle.tb_wait.specs.Numbers.{has, is_empty, IsPut, IsNextAbove};
 ghost use Rattle.tb_wait.specs.Few.{held};
 
-/// A set of numbers below 64: bit n tells whether n is there.
+/// A set of ordinals below 64: bit n says whether n is there.
 #[derive(Drop)]
 pub struct Few {
     bits: u64,
 }
 
 impl Few {
-    /// No number.
+    /// No ordinal.
     #[inline]
     pub fn new() -> Few
         ensures { held result.bits ≡ [] }
@@ -19,7 +19,7 @@ impl Few {
         Few { bits: 0 }
     }
 
-    /// Whether there is no number.
+    /// Whether there is no ordinal.
     #[inline]
     pub fn is_empty(&self) -> bool
         ensures { result ≡ is_empty (held self.now.bits) }
@@ -27,7 +27,7 @@ impl Few {
         self.bits == 0
     }
 
-    /// Whether the number is there.
+    /// Whether the ordinal is there.
     #[inline]
     pub fn has(&self, n: u32) -> bool
         requires { n < 64 }
@@ -36,7 +36,7 @@ impl Few {
         (self.bits >> n) & 1 == 1
     }
 
-    /// Puts the number in or takes it out.
+    /// Puts the ordinal in or takes it out.
     #[inline]
     pub fn set(&mut self, n: u32, there: bool)
         requires { n < 64 }
@@ -49,7 +49,7 @@ impl Few {
         }
     }
 
-    /// The least number above `low`.
+    /// The least ordinal above `low`.
     #[inline]
     pub fn next_above(&self, low: u32) -> Option<u32>
         ensures { IsNextAbove (held self.now.bits) low result }

@@ -1,4 +1,4 @@
-//! Where a task is, by the numbers of its name.
+//! Where a task is, by the ordinals of its name.
 
 ghost use Rattle.std.specs.Prelude.{◌<◌, ◌++◌, List, length};
 ghost use Rattle.tb_model.specs.Names.{Name};
@@ -9,8 +9,8 @@ use crate::tree::Tree;
 use tb_model::TaskName;
 
 impl Tree {
-    /// The place of the task, from the root down: each number of its name leads to a child. So it costs as much as the
-    /// task is deep.
+    /// The index of the task, from the root down: each ordinal of its name leads to a child. So it
+    /// costs as much as the task is deep.
     #[inline(never)]
     pub fn place_of(&self, name: &TaskName) -> Option<usize>
         ensures { (names : List Name) (slots : List Slot) → Fits names slots self.now.nodes → IsPlaceOf names name.now result }
@@ -28,7 +28,7 @@ impl Tree {
         Some(at)
     }
 
-    /// The place of the task to which these numbers lead down from the task at the place `start`.
+    /// The index of the task to which these ordinals lead down from the task at the index `start`.
     fn place_below(&self, start: usize, numbers: &[u32]) -> Option<usize>
         ensures { (names : List Name) (slots : List Slot) → Fits names slots self.now.nodes → start < length names → IsPlaceOf names (numbers.now ++ key names start) result }
     {

@@ -10,8 +10,8 @@ use std::alloc::{AllocError, Global};
 use std::marker::Model;
 use std::slice::from_ref;
 
-/// The groups that a task opened, and those of them that it closed: of each, how many children the task had generated when
-/// it began. There is room for one at least, open or closed.
+/// The groups that a task opened, and those of them that it closed: of each, how many children the
+/// task had generated when it began. There is capacity for one at least, open or closed.
 #[derive(Drop)]
 pub(crate) struct Groups {
     alloc: Global,
@@ -71,7 +71,7 @@ impl Groups {
         }
     }
 
-    /// Makes room for one more group.
+    /// Reserves capacity for one more group.
     pub fn reserve(&mut self) -> Result<(), AllocError>
         ensures ok { OnOk result (0 < self.new.room) }
         ensures same { self.new ≡ record self.old { room = self.new.room } }
@@ -88,7 +88,7 @@ impl Groups {
         Ok(())
     }
 
-    /// Opens a group in the room that is there.
+    /// Opens a group in the capacity that is there.
     pub fn push(&mut self, n: u32)
         requires { 0 < self.old.room }
         ensures { self.new ≡ record { groups = n ∷ self.old.groups; shut = self.old.shut; room = self.old.room - 1 } }
@@ -99,7 +99,7 @@ impl Groups {
         }
     }
 
-    /// Takes the innermost open group off. Its room stays.
+    /// Takes the innermost open group off. Its capacity stays.
     pub fn pop(&mut self)
         ensures groups { self.new.groups ≡ rest_of self.old.groups }
         ensures shut { self.new.shut ≡ self.old.shut }

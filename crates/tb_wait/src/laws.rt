@@ -60,7 +60,7 @@ pub fn conditions()
         Legal cells (v ∷ H) → v.action ≡ Open → AreKin (v ∷ H) tasks → HasOpenGroup tasks v.task }
 {}
 
-/// The tasks that the table tells as not over are those of the history.
+/// The tasks that aren't over by the table are those of the history.
 pub fn unended()
     ensures task { (H : History) (tasks : Tasks) (t : Name) → AreKin H tasks →
         IsUnended tasks t ↔ IsTrue (is_unended H t) }

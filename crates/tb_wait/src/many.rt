@@ -1,4 +1,4 @@
-//! A set of numbers, of which there may be many.
+//! A set of ordinals, of which there may be many.
 
 ghost use Rattle.std.specs.Prelude.{◌≡◌, ◌<◌, ◌≤◌, [], OnOk, OnErr, IsOk, true, false, length, ℕ, slice_index_or};
 ghost use Rattle.tb_wait.specs.Numbers.{has, is_empty, IsPut, IsNextAbove, Rises, below};
@@ -7,7 +7,7 @@ use std::alloc::{AllocError, Global};
 use std::collections::VecDeque;
 use std::marker::Model;
 
-/// A set of numbers from 1 on, in rising order. A search halves it, and a change moves the shorter
+/// A set of ordinals from 1 on, in rising order. A search halves it, and a change moves the shorter
 /// side.
 #[derive(Drop)]
 pub struct Many {
@@ -28,7 +28,7 @@ impl Model for Many {
 }
 
 impl Many {
-    /// No number.
+    /// No ordinal.
     pub fn new(alloc: Global) -> Many
         ensures items { result.items ≡ [] }
         ensures bound { result.bound ≡ 0 }
@@ -39,7 +39,7 @@ impl Many {
         }
     }
 
-    /// Makes room for each number up to the bound.
+    /// Reserves capacity for each ordinal up to the bound.
     pub fn reserve(&mut self, bound: usize) -> Result<(), AllocError>
         ensures ok { OnOk result (bound ≤ self.new.bound) }
         ensures items { self.new.items ≡ self.old.items }
@@ -51,34 +51,34 @@ impl Many {
             // for twice as many: a deque that holds few grows by no more than it is asked for
             let more = bound.saturating_sub(len);
             self.items.reserve(more.saturating_mul(2))?;
-            // for all that there is room for, so that mostly the next call has nothing to do
+            // for all that there is capacity for, so that mostly the next call has nothing to do
             self.bound = self.items.capacity();
         }
         Ok(())
     }
 
-    /// Up to which number each has room.
+    /// Up to which ordinal each has capacity.
     pub fn bound(&self) -> usize
         ensures { result ≡ self.now.bound }
     {
         self.bound
     }
 
-    /// Whether there is no number.
+    /// Whether there is no ordinal.
     pub fn is_empty(&self) -> bool
         ensures { result ≡ is_empty self.now.items }
     {
         self.items.is_empty()
     }
 
-    /// Whether the number is there.
+    /// Whether the ordinal is there.
     pub fn has(&self, n: u32) -> bool
         ensures { result ≡ has self.now.items n }
     {
         self.find(n).1
     }
 
-    /// How many numbers are below n, and whether it is there itself.
+    /// How many ordinals are below n, and whether it is there itself.
     #[inline]
     fn find(&self, n: u32) -> (usize, bool)
         ensures place { result.0 ≡ below n self.now.items }
@@ -90,7 +90,7 @@ impl Many {
         (at, there)
     }
 
-    /// Puts the number in or takes it out.
+    /// Puts the ordinal in or takes it out.
     pub fn set(&mut self, n: u32, there: bool)
         requires from_one { 0 < n }
         requires room { n ≤ self.old.bound }
@@ -132,7 +132,7 @@ impl Many {
         }
     }
 
-    /// The least number above `low`.
+    /// The least ordinal above `low`.
     pub fn next_above(&self, low: u32) -> Option<u32>
         ensures { IsNextAbove self.now.items low result }
     {
@@ -145,7 +145,7 @@ impl Many {
     }
 }
 
-// How many numbers in front are below n.
+// How many ordinals in front are below n.
 #[inline]
 fn gap(items: &VecDeque<u32>, n: u64) -> usize
     requires { (high : ℕ) × Rises 0 items.now.items high }
@@ -167,8 +167,8 @@ fn gap(items: &VecDeque<u32>, n: u64) -> usize
     low
 }
 
-// Which place between these is looked at in this round of a search: the last one and the first come
-// before the halves, since mostly the number goes to an end.
+// Which index between these is looked at in this round of a search: the last one and the first come
+// before the halves, since mostly the ordinal goes to an end.
 fn probe(low: usize, high: usize, round: u8) -> usize
     requires { low < high }
     ensures from { low ≤ result }

@@ -1,4 +1,4 @@
-//! The names of the tasks, by their places.
+//! The names of the tasks, by their indexes.
 
 ghost use Rattle.std.specs.Prelude.{◌≡◌, ◌<◌, ◌≤◌, ◌-◌, ◌++◌, ◌∷◌, [], false, IfOk, IsOk, OnOk, length, slice_get};
 ghost use Rattle.std.specs.List.{IsDistinct, list_any};
@@ -38,7 +38,7 @@ impl Names {
         Ok(Names { names })
     }
 
-    /// The name at the place.
+    /// The name at the index.
     #[inline(always)]
     pub fn get(&self, at: usize) -> Option<&TaskName>
         ensures key { option_copied result ≡ slice_get self.now.keys at }
@@ -48,7 +48,8 @@ impl Names {
         self.names.as_slice().get(at)
     }
 
-    /// Makes room for one more name. A place is kept in 32 bits, so there is none for further ones.
+    /// Reserves capacity for one more name. An index is stored in 32 bits, so there is none for
+    /// further ones.
     pub fn reserve(&mut self) -> Result<(), AllocError>
         ensures keys { self.new.keys ≡ self.old.keys }
         ensures room { OnOk result (0 < self.new.spare) }
@@ -61,7 +62,7 @@ impl Names {
         self.names.reserve(1)
     }
 
-    /// One more name, which isn't there, at the next place.
+    /// One more name, which isn't there, at the next index.
     pub fn push(&mut self, name: TaskName)
         requires room { 0 < self.old.spare }
         requires absent { list_any (same_name name) self.old.keys ≡ false }

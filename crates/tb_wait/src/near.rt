@@ -10,9 +10,10 @@ use crate::names::Names;
 use crate::tree::Tree;
 use tb_model::TaskName;
 
-/// The places of a task and of its parent. Mostly the task that took the last step is asked of
-/// again, or its parent, or the task that was generated after it; so their places are tried before
-/// the tree is asked from its root on. A place counts only where the very name stands, so any places do.
+/// The indexes of a task and of its parent. Mostly the task that took the last step is asked of
+/// again, or its parent, or the task that was generated after it; so their indexes are tried before
+/// the tree is asked from its root on. An index counts only where the very name is, so any indexes
+/// do.
 #[derive(Clone, Copy)]
 pub struct Near {
     pub own: usize,
@@ -20,7 +21,7 @@ pub struct Near {
 }
 
 impl Near {
-    /// The place of a name.
+    /// The index of a name.
     #[inline(always)]
     pub fn find(&self, names: &Names, tree: &Tree, name: &TaskName) -> Option<usize>
         requires { AreNamed names.now.keys tree.now.nodes }
@@ -32,7 +33,7 @@ impl Near {
         self.find_elsewhere(names, tree, name)
     }
 
-    /// The place of a name that isn't at the task's own place.
+    /// The index of a name that isn't at the task's own index.
     // out of line: most calls don't pay for its stack frame
     #[inline(never)]
     fn find_elsewhere(&self, names: &Names, tree: &Tree, name: &TaskName) -> Option<usize>
@@ -45,7 +46,7 @@ impl Near {
         }
     }
 
-    /// The place of a name, mostly this one.
+    /// The index of a name, mostly this one.
     #[inline(always)]
     pub fn find_near(
         &self,
@@ -63,7 +64,7 @@ impl Near {
         self.find(names, tree, name)
     }
 
-    /// The place of a name, mostly this one, else mostly that of the task, of its parent, or of a
+    /// The index of a name, mostly this one, else mostly that of the task, of its parent, or of a
     /// child of one of them: the name's ordinal leads there.
     pub fn find_below(
         &self,
@@ -90,7 +91,8 @@ impl Near {
         }
     }
 
-    // The place of the name, if it is that of the child of the task, or of its parent, with the name's ordinal.
+    // The index of the name, if it is that of the child of the task, or of its parent, with the
+    // name's ordinal.
     fn by_ordinal(&self, names: &Names, tree: &Tree, name: &TaskName) -> Option<usize>
         ensures { IfSome result (λ i. IsFirstPlace names.now.keys name.now (Some i)) }
     {
@@ -105,7 +107,7 @@ impl Near {
         None
     }
 
-    // The place of the name, if it is that of the parent or the one after the task's own.
+    // The index of the name, if it is that of the parent or the one after the task's own.
     #[inline(always)]
     fn beside(&self, names: &Names, name: &TaskName) -> Option<usize>
         ensures here { IfSome result (λ i. IsFirstPlace names.now.keys name.now (Some i)) }
@@ -122,7 +124,7 @@ impl Near {
     }
 }
 
-/// Whether the name stands at the place.
+/// Whether the name is at the index.
 #[inline(always)]
 pub fn stands_at(names: &Names, at: usize, name: &TaskName) -> bool
     ensures here { IsTrue result → IsFirstPlace names.now.keys name.now (Some at) }

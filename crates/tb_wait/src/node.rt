@@ -41,28 +41,28 @@ impl Node {
         }
     }
 
-    /// The place of the parent.
+    /// The index of the parent.
     pub fn owner(&self) -> usize
         ensures { result ≡ self.now.owner }
     {
         self.owner
     }
 
-    /// The number among the parent's children.
+    /// The ordinal among the parent's children.
     pub fn number(&self) -> u32
         ensures { result ≡ self.now.number }
     {
         self.number
     }
 
-    /// Whether the task stands and hasn't ended.
+    /// Whether the task is there and hasn't ended.
     pub fn is_pending(&self) -> bool
         ensures { result ≡ self.now.pending }
     {
         self.pending
     }
 
-    /// Whether some task within it stands and hasn't ended.
+    /// Whether some task within it is there and hasn't ended.
     pub fn is_live(&self) -> bool
         ensures { result ≡ is_live self.now }
     {
@@ -75,14 +75,14 @@ impl Node {
         }
     }
 
-    /// Sets whether the task stands and hasn't ended.
+    /// Sets whether the task is there and hasn't ended.
     pub fn set_pending(&mut self, pending: bool)
         ensures { self.new ≡ record self.old { pending = pending } }
     {
         self.pending = pending;
     }
 
-    /// The place of the child of this number.
+    /// The index of the child of this ordinal.
     pub fn place(&self, number: u32) -> Option<usize>
         requires { 0 < number }
         ensures { result ≡ slice_get self.now.places (number - 1) }
@@ -103,7 +103,7 @@ impl Node {
         }
     }
 
-    /// Makes room for one more child.
+    /// Reserves capacity for one more child.
     pub fn reserve(&mut self) -> Result<(), AllocError>
         ensures ok { OnOk result (0 < self.new.room) }
         ensures same { self.new ≡ record self.old { room = self.new.room } }
@@ -118,7 +118,7 @@ impl Node {
         Ok(())
     }
 
-    /// One more child, at this place.
+    /// One more child, at this index.
     pub fn push(&mut self, place: usize)
         requires { 0 < self.old.room }
         ensures { self.new ≡ record self.old { places = self.old.places ++ place ∷ []; room = self.old.room - 1 } }
@@ -128,7 +128,7 @@ impl Node {
         }
     }
 
-    /// Sets whether the child of this number hasn't ended.
+    /// Sets whether the child of this ordinal hasn't ended.
     pub fn set_unended(&mut self, number: u32, unended: bool)
         requires from_one { 0 < number }
         requires child { number ≤ length self.old.places }
@@ -140,7 +140,7 @@ impl Node {
         }
     }
 
-    /// Sets whether some task within the child of this number hasn't ended.
+    /// Sets whether some task within the child of this ordinal hasn't ended.
     pub fn set_live(&mut self, number: u32, live: bool)
         requires from_one { 0 < number }
         requires child { number ≤ length self.old.places }
@@ -152,7 +152,7 @@ impl Node {
         }
     }
 
-    /// Whether some task within the child of this number hasn't ended.
+    /// Whether some task within the child of this ordinal hasn't ended.
     pub fn has_live(&self, number: u32) -> bool
         ensures { result ≡ has self.now.live number }
     {
@@ -162,7 +162,7 @@ impl Node {
         }
     }
 
-    /// The least number above `low` of a child that hasn't ended.
+    /// The least ordinal above `low` of a child that hasn't ended.
     pub fn first_unended(&self, low: u32) -> Option<u32>
         ensures { IsNextAbove self.now.unended low result }
     {
@@ -172,7 +172,7 @@ impl Node {
         }
     }
 
-    /// The least number above `low` of a child within which some task hasn't ended.
+    /// The least ordinal above `low` of a child within which some task hasn't ended.
     pub fn first_live(&self, low: u32) -> Option<u32>
         ensures { IsNextAbove self.now.live low result }
     {

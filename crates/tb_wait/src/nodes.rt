@@ -7,7 +7,7 @@ ghost use Rattle.tb_wait.specs.Numbers.{IsPut};
 use crate::node::Node;
 use std::alloc::{AllocError, Global};
 
-/// Notes at the owner whether the node stands and hasn't ended.
+/// Notes at the owner whether the node is there and hasn't ended.
 pub fn tell_unended(nodes: &mut Vec<Node>, at: usize)
     requires linked { IsLinked nodes.old.items }
     requires children { AreChildren nodes.old.items }
@@ -29,7 +29,7 @@ pub fn tell_unended(nodes: &mut Vec<Node>, at: usize)
     set_unended(nodes, owner, number, pending);
 }
 
-/// Notes at the owners upwards whether the node at the place is live.
+/// Notes at the owners upwards whether the node at the index is live.
 pub fn refresh(nodes: &mut Vec<Node>, start: usize)
     requires linked { IsLinked nodes.old.items }
     requires children { AreChildren nodes.old.items }
@@ -78,7 +78,7 @@ fn tell_live(nodes: &mut Vec<Node>, at: usize) -> bool
     !settled
 }
 
-/// The node at the place.
+/// The node at the index.
 #[tactic(auto, using(crate::proofs::TreeLemmas::shown))]
 pub fn shown(nodes: &Vec<Node>, at: usize) -> &Node
     requires { at < length nodes.now.items }
@@ -87,7 +87,7 @@ pub fn shown(nodes: &Vec<Node>, at: usize) -> &Node
     &nodes[at]
 }
 
-/// Sets whether the task stands and hasn't ended, and tells nobody.
+/// Sets whether the task is there and hasn't ended, and returns nobody.
 #[tactic(auto, using(crate::proofs::TreeLemmas::shown))]
 pub fn flag(nodes: &mut Vec<Node>, at: usize, pending: bool)
     requires { at < length nodes.old.items }
@@ -140,7 +140,7 @@ pub fn push(nodes: &mut Vec<Node>, alloc: Global, owner: usize, number: u32)
     nodes.push_reserved(Node::new(alloc, owner, number));
 }
 
-/// Makes room for one more child of the node.
+/// Reserves capacity for one more child of the node.
 #[tactic(auto, using(crate::proofs::TreeLemmas::shown))]
 pub fn reserve_child(nodes: &mut Vec<Node>, at: usize) -> Result<(), AllocError>
     requires within { at < length nodes.old.items }

@@ -1,4 +1,4 @@
-//! A set of numbers.
+//! A set of ordinals.
 
 ghost use Rattle.std.specs.Prelude.{◌≡◌, ◌<◌, ◌≤◌, [], OnOk, IsOk};
 ghost use Rattle.tb_wait.specs.Numbers.{has, is_empty, IsPut, IsNextAbove};
@@ -8,12 +8,13 @@ use crate::many::Many;
 use std::alloc::{AllocError, Global};
 use std::marker::Model;
 
-/// A set of numbers from 1 on. Those below 64 stand in it as bits.
+/// A set of ordinals from 1 on. Those below 64 are in it as bits.
 #[derive(Drop)]
 pub struct Numbers {
     alloc: Global,
     few: Few,
-    // those from 64 on, made where there is to be room for one: most tasks have fewer children
+    // the ordinals from 64 on, made where there is to be capacity for one: most tasks have fewer
+    // children
     many: Option<Box<Many>>,
 }
 
@@ -30,7 +31,7 @@ impl Model for Numbers {
 }
 
 impl Numbers {
-    /// No number.
+    /// No ordinal.
     pub fn new(alloc: Global) -> Numbers
         ensures items { result.items ≡ [] }
         ensures bound { result.bound ≡ 63 }
@@ -42,7 +43,7 @@ impl Numbers {
         }
     }
 
-    /// Makes room for each number up to the bound.
+    /// Reserves capacity for each ordinal up to the bound.
     #[inline]
     pub fn reserve(&mut self, bound: usize) -> Result<(), AllocError>
         ensures ok { OnOk result (bound ≤ self.new.bound) }
@@ -62,7 +63,7 @@ impl Numbers {
         }
     }
 
-    /// Up to which number each has room.
+    /// Up to which ordinal each has capacity.
     pub fn bound(&self) -> usize
         ensures { result ≡ self.now.bound }
     {
@@ -73,7 +74,7 @@ impl Numbers {
         many.max(63)
     }
 
-    /// Whether there is no number.
+    /// Whether there is no ordinal.
     #[inline]
     pub fn is_empty(&self) -> bool
         ensures { result ≡ is_empty self.now.items }
@@ -85,7 +86,7 @@ impl Numbers {
         self.few.is_empty() && none
     }
 
-    /// Whether the number is there.
+    /// Whether the ordinal is there.
     #[inline]
     pub fn has(&self, n: u32) -> bool
         ensures { result ≡ has self.now.items n }
@@ -99,7 +100,7 @@ impl Numbers {
         }
     }
 
-    /// Puts the number in or takes it out.
+    /// Puts the ordinal in or takes it out.
     #[inline]
     pub fn set(&mut self, n: u32, there: bool)
         requires from_one { 0 < n }
@@ -114,7 +115,7 @@ impl Numbers {
         }
     }
 
-    /// The least number above `low`.
+    /// The least ordinal above `low`.
     #[inline]
     pub fn next_above(&self, low: u32) -> Option<u32>
         ensures { IsNextAbove self.now.items low result }

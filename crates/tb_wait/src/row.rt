@@ -1,4 +1,4 @@
-//! What is kept of one task.
+//! What is stored of one task.
 
 ghost use Rattle.std.specs.Prelude.{◌≡◌, ◌≢◌, ◌<◌, ◌≤◌, ◌-◌, ◌+◌, [], OnOk, OnErr, IsOk, Some, None, is_some, reverse};
 ghost use Rattle.tb_wait.specs.Rows.{blank, is_pending, children_of, groups_of};
@@ -9,7 +9,7 @@ use crate::groups::Groups;
 use std::alloc::{AllocError, Global};
 use std::marker::Model;
 
-/// A task that was ever generated. While it doesn't stand, it is as a fresh one.
+/// A task that was ever generated. While it isn't there, it is as a fresh one.
 #[derive(Drop)]
 pub struct Row {
     stands: bool,
@@ -36,7 +36,7 @@ impl Model for Row {
 }
 
 impl Row {
-    /// The row of a task that doesn't stand. Takes no memory.
+    /// The row of a task that isn't there. Takes no memory.
     pub fn new(alloc: Global) -> Row
         ensures { result ≡ blank }
     {
@@ -49,56 +49,56 @@ impl Row {
         }
     }
 
-    /// Whether the task stands: it was generated, and that isn't taken back.
+    /// Whether the task is there: it was generated, and that isn't taken back.
     pub fn stands(&self) -> bool
         ensures { result ≡ is_some self.now.kin }
     {
         self.stands
     }
 
-    /// Whether it stands and isn't over.
+    /// Whether it is there and isn't over.
     pub fn is_pending(&self) -> bool
         ensures { result ≡ is_pending self.now.kin }
     {
         self.stands && !self.over
     }
 
-    /// The number of its last child.
+    /// The ordinal of its last child.
     pub fn children(&self) -> u32
         ensures { result ≡ children_of self.now.kin }
     {
         self.children
     }
 
-    /// What that number was at the beginning of each open group, the outermost first.
+    /// What that ordinal was at the beginning of each open group, the outermost first.
     pub fn groups(&self) -> &[u32]
         ensures { result.now ≡ reverse (groups_of self.now.kin) }
     {
         self.groups.opened()
     }
 
-    /// What that number was at the beginning of the innermost open group.
+    /// What that ordinal was at the beginning of the innermost open group.
     pub fn innermost(&self) -> Option<u32>
         ensures { result ≡ first_of (groups_of self.now.kin) }
     {
         self.groups.innermost()
     }
 
-    /// Whether it stands, and nothing is kept of it yet.
+    /// Whether it is there, and nothing is stored of it yet.
     pub fn is_fresh(&self) -> bool
         ensures { result ≡ is_fresh self.now.kin }
     {
         self.stands && !self.over && self.children == 0 && self.groups.is_empty()
     }
 
-    /// Whether it is over, where it stands.
+    /// Whether it is over, where it is.
     pub fn is_over(&self) -> Option<bool>
         ensures { result ≡ option_map (λ (k : Kin). k.over) self.now.kin }
     {
         self.stands.then_some(self.over)
     }
 
-    /// The task stands from now on.
+    /// The task is from now on.
     pub fn appear(&mut self)
         requires { self.old.kin ≡ None }
         ensures { self.new ≡ record self.old { kin = Some fresh } }
@@ -106,7 +106,7 @@ impl Row {
         self.stands = true;
     }
 
-    /// The task stands no longer. It is as it was when it came.
+    /// The task is no longer there. It is as it was when it came.
     pub fn vanish(&mut self)
         requires { self.old.kin ≡ Some fresh }
         ensures { self.new ≡ record self.old { kin = None } }
@@ -123,7 +123,7 @@ impl Row {
         }
     }
 
-    /// Sets the number of its last child.
+    /// Sets the ordinal of its last child.
     pub fn set_children(&mut self, n: u32)
         ensures { self.new ≡ record self.old { kin = option_map (with_children n) self.old.kin } }
     {
@@ -146,7 +146,7 @@ impl Row {
         self.child_room = room;
     }
 
-    /// Makes room for one more group.
+    /// Reserves capacity for one more group.
     pub fn reserve_group(&mut self) -> Result<(), AllocError>
         ensures ok { OnOk result (0 < self.new.group_room) }
         ensures same { self.new ≡ record self.old { group_room = self.new.group_room } }
@@ -167,7 +167,7 @@ impl Row {
         }
     }
 
-    /// Opens a group, and makes the room for it where there is none.
+    /// Opens a group, and reserves the capacity for it where there is none.
     pub fn open_reserving(&mut self) -> Result<(), AllocError>
         ensures ok { OnOk result (self.new.kin ≡ option_map opened_kin self.old.kin) }
         ensures err { OnErr result (self.new.kin ≡ self.old.kin) }

@@ -9,7 +9,7 @@ ghost use Rattle.tb_wait.specs.Rows.{blank, slot_at, groups_of, ChangesSlot, Set
 use crate::row::Row;
 use std::alloc::{AllocError, Global};
 
-/// Whether the task stands and isn't over.
+/// Whether the task is there and isn't over.
 #[tactic(auto, using(crate::proofs::RowLemmas::shown))]
 pub fn is_pending(rows: &Vec<Row>, at: usize) -> bool
     requires { at < length rows.now.items }
@@ -117,7 +117,7 @@ fn vanish(rows: &mut Vec<Row>, at: usize)
     rows[at].vanish();
 }
 
-/// The task comes to stand, as the last child of the row above.
+/// The task comes to be, as the last child of the row above.
 pub fn enter(rows: &mut Vec<Row>, at: usize, owner: usize, number: u32)
     requires within { at < length rows.old.items }
     requires above { owner < at }
@@ -129,7 +129,7 @@ pub fn enter(rows: &mut Vec<Row>, at: usize, owner: usize, number: u32)
     set_children(rows, owner, number);
 }
 
-/// The task, which was the last child of the row above, stands no longer.
+/// The task, which was the last child of the row above, is no longer there.
 pub fn leave(rows: &mut Vec<Row>, at: usize, owner: usize, number: u32)
     requires within { at < length rows.old.items }
     requires above { owner < at }
@@ -160,7 +160,7 @@ pub fn child_room(rows: &Vec<Row>, at: usize) -> usize
     rows[at].child_room()
 }
 
-/// One more task, which doesn't stand yet.
+/// One more task, which isn't there yet.
 pub fn push(rows: &mut Vec<Row>, alloc: Global)
     requires { length rows.old.items < vec_capacity rows.old }
     ensures rows { rows.new.items ≡ rows.old.items ++ blank ∷ [] }
@@ -169,7 +169,7 @@ pub fn push(rows: &mut Vec<Row>, alloc: Global)
     rows.push_reserved(Row::new(alloc));
 }
 
-/// The root, which stands from the beginning.
+/// The root, which is from the beginning.
 pub fn root_rows(alloc: Global) -> Result<Vec<Row>, AllocError>
     ensures rows { IfOk result (λ rows. rows.items ≡ record blank { kin = Some fresh } ∷ []) }
     ensures room { IfOk result (λ rows. 1 ≤ vec_capacity rows) }
@@ -181,7 +181,7 @@ pub fn root_rows(alloc: Global) -> Result<Vec<Row>, AllocError>
     Ok(rows)
 }
 
-/// Whether the task is over, where it stands.
+/// Whether the task is over, where it is.
 #[tactic(auto, using(crate::proofs::RowLemmas::shown))]
 pub fn is_over(rows: &Vec<Row>, at: usize) -> Option<bool>
     requires { at < length rows.now.items }
@@ -190,7 +190,7 @@ pub fn is_over(rows: &Vec<Row>, at: usize) -> Option<bool>
     rows[at].is_over()
 }
 
-/// The number of the task's last child, where it stands.
+/// The ordinal of the task's last child, where it is.
 #[tactic(auto, using(crate::proofs::RowLemmas::shown))]
 pub fn children(rows: &Vec<Row>, at: usize) -> Option<u32>
     requires { at < length rows.now.items }
@@ -200,7 +200,7 @@ pub fn children(rows: &Vec<Row>, at: usize) -> Option<u32>
     row.stands().then_some(row.children())
 }
 
-/// What the number of its last child was at the beginning of the innermost open group.
+/// What the ordinal of its last child was at the beginning of the innermost open group.
 #[tactic(auto, using(crate::proofs::RowLemmas::shown))]
 pub fn innermost(rows: &Vec<Row>, at: usize) -> Option<u32>
     requires { at < length rows.now.items }
@@ -209,7 +209,7 @@ pub fn innermost(rows: &Vec<Row>, at: usize) -> Option<u32>
     rows[at].innermost()
 }
 
-/// Whether the task stands, and nothing is kept of it yet.
+/// Whether the task is there, and nothing is stored of it yet.
 #[tactic(auto, using(crate::proofs::RowLemmas::shown))]
 pub fn is_fresh(rows: &Vec<Row>, at: usize) -> bool
     requires { at < length rows.now.items }
@@ -218,7 +218,7 @@ pub fn is_fresh(rows: &Vec<Row>, at: usize) -> bool
     rows[at].is_fresh()
 }
 
-/// What the number of its last child was at the beginning of each open group, the outermost first.
+/// What the ordinal of its last child was at the beginning of each open group, the outermost first.
 #[tactic(auto, using(crate::proofs::RowLemmas::shown))]
 pub fn groups(rows: &Vec<Row>, at: usize) -> &[u32]
     requires { at < length rows.now.items }

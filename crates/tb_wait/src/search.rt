@@ -10,7 +10,7 @@ use crate::nodes::shown;
 use crate::tree::Tree;
 
 impl Tree {
-    /// The place of the first child that hasn't ended.
+    /// The index of the first child that hasn't ended.
     pub fn first_unended(&self, at: usize) -> Option<usize>
         requires { at < length self.now.nodes }
         ensures { IsFirstPlace self.now.nodes at 0 is_own result }
@@ -22,7 +22,7 @@ impl Tree {
         }
     }
 
-    /// The least number above `low` of a child that hasn't ended.
+    /// The least ordinal above `low` of a child that hasn't ended.
     pub fn next_unended(&self, at: usize, low: u32) -> Option<u32>
         requires { at < length self.now.nodes }
         ensures { IsNextNumber self.now.nodes at low is_own result }
@@ -30,7 +30,7 @@ impl Tree {
         shown(&self.nodes, at).first_unended(low)
     }
 
-    /// The place of the first child above the number within which some task hasn't ended.
+    /// The index of the first child above the ordinal within which some task hasn't ended.
     pub fn first_live(&self, at: usize, low: u32) -> Option<usize>
         requires { at < length self.now.nodes }
         ensures first { IsFirstPlace self.now.nodes at low is_live result }
@@ -43,7 +43,7 @@ impl Tree {
         }
     }
 
-    /// The place of the least task within the one at `start` that hasn't ended: its own, where it
+    /// The index of the least task within the one at `start` that hasn't ended: its own, where it
     /// hasn't, else one within the first child that has one.
     pub fn first_within(&self, start: usize) -> usize
         requires within { start < length self.now.nodes }

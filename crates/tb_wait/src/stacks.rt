@@ -7,7 +7,7 @@ use smallvec::SmallVec;
 use std::alloc::{AllocError, Global};
 use std::marker::Model;
 
-/// The open groups and the closed ones. In each there is room for all of both.
+/// The open groups and the closed ones. In each there is capacity for all of both.
 #[derive(Drop)]
 pub(crate) struct Stacks {
     groups: SmallVec<u32, 4>,
@@ -29,7 +29,7 @@ impl Model for Stacks {
 }
 
 impl Stacks {
-    /// No group, and room for four.
+    /// No group, and capacity for four.
     pub fn new(alloc: Global) -> Stacks
         ensures { result ≡ record { groups = []; shut = []; room = 4 } }
     {
@@ -62,7 +62,7 @@ impl Stacks {
         self.groups.is_empty() && self.shut.is_empty()
     }
 
-    /// Makes room for one more group.
+    /// Reserves capacity for one more group.
     pub fn reserve(&mut self) -> Result<(), AllocError>
         ensures ok { OnOk result (0 < self.new.room) }
         ensures same { self.new ≡ record self.old { room = self.new.room } }
@@ -79,7 +79,7 @@ impl Stacks {
         Ok(())
     }
 
-    /// Opens a group in the room that is there.
+    /// Opens a group in the capacity that is there.
     pub fn push(&mut self, n: u32)
         requires { 0 < self.old.room }
         ensures { self.new ≡ record { groups = n ∷ self.old.groups; shut = self.old.shut; room = self.old.room - 1 } }
@@ -88,7 +88,7 @@ impl Stacks {
         self.room -= 1;
     }
 
-    /// Takes the innermost open group off. Its room stays.
+    /// Takes the innermost open group off. Its capacity stays.
     pub fn pop(&mut self)
         ensures groups { self.new.groups ≡ rest_of self.old.groups }
         ensures shut { self.new.shut ≡ self.old.shut }

@@ -1,4 +1,4 @@
-//! A task that comes to stand, or stands no longer, in its row and in the tree.
+//! A task that comes to be, or is no longer there, in its row and in the tree.
 
 ghost use Rattle.std.specs.Prelude.{◌≡◌, ◌<◌, ◌-◌, Some, None, true, false, length, vec_capacity};
 ghost use Rattle.tb_wait.specs.Kin.{fresh};
@@ -9,7 +9,7 @@ use crate::row::Row;
 use crate::rows;
 use crate::tree::Tree;
 
-/// The task comes to stand.
+/// The task comes to be.
 pub fn enter(rows: &mut Vec<Row>, tree: &mut Tree, at: usize)
     requires len { length rows.old.items ≡ length tree.old.nodes }
     requires below { 0 < at }
@@ -25,7 +25,7 @@ pub fn enter(rows: &mut Vec<Row>, tree: &mut Tree, at: usize)
     tree.set_pending(at, true);
 }
 
-/// The task, of which nothing is kept yet, stands no longer.
+/// The task, of which nothing is retained yet, is no longer there.
 pub fn leave(rows: &mut Vec<Row>, tree: &mut Tree, at: usize)
     requires len { length rows.old.items ≡ length tree.old.nodes }
     requires below { 0 < at }

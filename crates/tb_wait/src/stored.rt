@@ -1,8 +1,8 @@
-//! Where the groups of a task stand.
+//! Where the groups of a task are.
 
 use crate::stacks::Stacks;
 
-/// One group stands in the value itself, and more on the heap: most tasks begin one at most.
+/// One group is in the value itself, and more on the heap: most tasks begin one at most.
 #[derive(Drop)]
 pub(crate) enum Stored {
     Nothing,

@@ -9,7 +9,7 @@ use crate::nodes;
 use std::alloc::{AllocError, Global};
 use std::marker::Model;
 
-/// All tasks that were ever generated, each behind its parent. Each node knows which of its children
+/// All tasks that were ever generated, each after its parent. Each node knows which of its children
 /// haven't ended, and within which of them some task hasn't.
 #[derive(Drop)]
 pub(crate) struct Tree {
@@ -28,7 +28,7 @@ impl Model for Tree {
 }
 
 impl Tree {
-    /// The root, which stands from the beginning.
+    /// The root, which is from the beginning.
     pub fn root(alloc: Global) -> Result<Tree, AllocError>
         ensures { IfOk result (λ t. t.nodes ≡ record (leaf 0 0) { pending = true } ∷ []) }
     {
@@ -39,7 +39,7 @@ impl Tree {
         Ok(Tree { nodes })
     }
 
-    /// The place of the parent, which stands in front.
+    /// The index of the parent, which is in front.
     pub fn owner(&self, at: usize) -> usize
         requires { at < length self.now.nodes }
         ensures owner { result ≡ (node self.now.nodes at).owner }
@@ -48,7 +48,7 @@ impl Tree {
         nodes::shown(&self.nodes, at).owner()
     }
 
-    /// The number among the parent's children.
+    /// The ordinal among the parent's children.
     pub fn number(&self, at: usize) -> u32
         requires { at < length self.now.nodes }
         ensures { result ≡ (node self.now.nodes at).number }
@@ -56,7 +56,7 @@ impl Tree {
         nodes::shown(&self.nodes, at).number()
     }
 
-    /// Whether the task at the place ever generated the child of this number.
+    /// Whether the task at the index ever generated the child of this ordinal.
     pub fn has_child(&self, at: usize, number: u32) -> bool
         requires { at < length self.now.nodes }
         ensures { IsTrue result ↔ ((0 < number) × (number ≤ length (node self.now.nodes at).places)) }
@@ -64,7 +64,8 @@ impl Tree {
         number > 0 && number as usize <= nodes::shown(&self.nodes, at).len()
     }
 
-    /// The place of the child of this number of the task at the place, where both were ever generated.
+    /// The index of the child of this ordinal of the task at the index, where both were ever
+    /// generated.
     pub fn child(&self, at: usize, number: u32) -> Option<usize>
         ensures some { IfSome result (λ i. (0 < number) × IsPlace self.now.nodes at (number - 1) i) }
         ensures none { IfNone result ((k i : ℕ) → suc k ≡ number → IsPlace self.now.nodes at k i → ⊥) }
@@ -75,7 +76,8 @@ impl Tree {
         }
     }
 
-    /// Whether the child of this number of the task at the place was generated, stands and hasn't ended.
+    /// Whether the child of this ordinal of the task at the index was generated, is there and
+    /// hasn't ended.
     pub fn is_child_pending(&self, at: usize, number: u32) -> bool
         requires within { at < length self.now.nodes }
         requires from_one { 0 < number }
@@ -87,8 +89,8 @@ impl Tree {
         }
     }
 
-    /// Sets whether the task at the place stands and hasn't ended, and tells all above it. This goes
-    /// up the line of owners as far as something changes.
+    /// Sets whether the task at the index is there and hasn't ended, and returns all above it. This
+    /// goes up the line of owners as far as something changes.
     pub fn set_pending(&mut self, at: usize, pending: bool)
         requires { at < length self.old.nodes }
         ensures set { SetsPending self.old.nodes at pending self.new.nodes }
@@ -99,7 +101,7 @@ impl Tree {
         nodes::refresh(&mut self.nodes, at);
     }
 
-    /// Makes room for one more task, and changes nothing else.
+    /// Reserves capacity for one more task, and changes nothing else.
     pub fn reserve(&mut self) -> Result<(), AllocError>
         ensures ok { OnOk result (0 < self.new.room) }
         ensures nodes { self.new.nodes ≡ self.old.nodes }
@@ -108,7 +110,7 @@ impl Tree {
         self.nodes.reserve(1)
     }
 
-    /// Makes room for one more child of the task at the place.
+    /// Reserves capacity for one more child of the task at the index.
     pub fn reserve_child(&mut self, at: usize) -> Result<(), AllocError>
         requires { at < length self.old.nodes }
         ensures ok { OnOk result (0 < (node self.new.nodes at).room) }
@@ -119,7 +121,7 @@ impl Tree {
         nodes::reserve_child(&mut self.nodes, at)
     }
 
-    /// One more task, as the last child of the one at `owner`. It doesn't stand yet.
+    /// One more task, as the last child of the one at `owner`. It isn't there yet.
     pub fn add(&mut self, alloc: Global, owner: usize, number: u32)
         requires within { owner < length self.old.nodes }
         requires child_room { 0 < (node self.old.nodes owner).room }

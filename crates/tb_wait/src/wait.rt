@@ -21,8 +21,8 @@ use std::alloc::{AllocError, Global};
 use std::marker::Model;
 use tb_model::TaskName;
 
-/// What is kept of each task that was generated. A name that was once there keeps its place, so
-/// that what comes back finds its room.
+/// What is stored of each task that was generated. A name that was once there retains its index, so
+/// that what comes back finds its capacity.
 #[derive(Drop)]
 pub struct Wait {
     alloc: Global,
@@ -51,7 +51,7 @@ impl Model for Wait {
 }
 
 impl Wait {
-    /// The table of a history without events, in which the root alone stands.
+    /// The table of a history without events, in which the root alone is there.
     pub fn open(alloc: Global) -> Result<Wait, AllocError>
         ensures kin { IfOk result (λ w. (t : List ℕ) → kin w.tasks t ≡ (if same_name [] t then Some fresh else None)) }
         ensures names { IfOk result (λ w. keys_of w.tasks ≡ [] ∷ []) }
@@ -69,7 +69,7 @@ impl Wait {
         })
     }
 
-    /// Makes the room that `spawned` needs, and changes nothing else.
+    /// Reserves the capacity that `spawned` needs, and changes nothing else.
     pub fn reserve_spawned(&mut self, parent: &TaskName, child: &TaskName) -> Result<(), AllocError>
         ensures ok { OnOk result (HasRoomFor self.new parent.now child.now) }
         ensures tasks { IsSame self.old.tasks self.new.tasks }
@@ -83,7 +83,8 @@ impl Wait {
         self.reserve_place()
     }
 
-    /// Whether the child was ever generated, so has its place. Where its parent was, its number tells that.
+    /// Whether the child was ever generated, so has its index. Where its parent was, its ordinal
+    /// says that.
     pub fn is_known(&self, parent: &TaskName, child: &TaskName) -> bool
         ensures { result ≡ is_known self.now.tasks child.now }
     {
@@ -128,7 +129,7 @@ impl Wait {
         Ok(())
     }
 
-    /// The parent generated its next child. With room it takes no memory.
+    /// The parent generated its next child. With capacity it takes no memory.
     pub fn spawned(&mut self, parent: &TaskName, child: TaskName) -> Result<(), AllocError>
         requires { IsNext self.old.tasks parent.now child }
         ensures ok { OnOk result (Adds self.old.tasks parent.now child self.new.tasks) }
@@ -142,7 +143,7 @@ impl Wait {
         Ok(())
     }
 
-    /// The parent generated its next child, which is entered in the room that is there.
+    /// The parent generated its next child, which is entered in the capacity that is there.
     pub fn spawned_reserved(&mut self, parent: &TaskName, child: TaskName)
         requires next { IsNext self.old.tasks parent.now child }
         requires room { HasRoomFor self.old parent.now child }
@@ -157,7 +158,7 @@ impl Wait {
         }
     }
 
-    // Whether the child that the parent generates next was ever generated: its number tells that.
+    // Whether the child that the parent generates next was ever generated: its ordinal says that.
     #[inline(always)]
     fn is_next_known(&self, parent: &TaskName, child: &TaskName) -> bool
         requires { IsNext self.now.tasks parent.now child.now }
@@ -205,8 +206,8 @@ impl Wait {
         }
     }
 
-    /// The spawn of the parent's last child is taken back; nothing is kept of the child yet. Its
-    /// room stays.
+    /// The spawn of the parent's last child is taken back; nothing is stored of the child yet. Its
+    /// capacity stays.
     pub fn unspawned(&mut self, parent: &TaskName, child: &TaskName)
         requires { IsLast self.old.tasks parent.now child.now }
         ensures tasks { Drops self.old.tasks parent.now child.now self.new.tasks }
@@ -233,7 +234,7 @@ impl Wait {
         self.set_over(task, false)
     }
 
-    /// Makes the room that `opened` needs, and changes nothing else.
+    /// Reserves the capacity that `opened` needs, and changes nothing else.
     pub fn reserve_opened(&mut self, task: &TaskName) -> Result<(), AllocError>
         ensures ok { OnOk result (HasGroupRoom self.new.tasks task.now) }
         ensures tasks { IsSame self.old.tasks self.new.tasks }
@@ -246,7 +247,7 @@ impl Wait {
         }
     }
 
-    /// The task opened a group. With room it takes no memory.
+    /// The task opened a group. With capacity it takes no memory.
     pub fn opened(&mut self, task: &TaskName) -> Result<(), AllocError>
         ensures ok { OnOk result (Changes self.old.tasks task.now opened_kin self.new.tasks) }
         ensures err { OnErr result (IsSame self.old.tasks self.new.tasks) }
@@ -260,7 +261,7 @@ impl Wait {
         }
     }
 
-    /// The opening of the task's innermost group is taken back. The room for the group stays.
+    /// The opening of the task's innermost group is taken back. The capacity for the group stays.
     pub fn unopened(&mut self, task: &TaskName)
         ensures tasks { Changes self.old.tasks task.now unopened_kin self.new.tasks }
         ensures room { KeepsRoom self.old self.new }
@@ -281,7 +282,8 @@ impl Wait {
         }
     }
 
-    /// The closing of the task's last closed group is taken back. The room for the group was kept.
+    /// The closing of the task's last closed group is taken back. The capacity for the group was
+    /// retained.
     pub fn unclosed(&mut self, task: &TaskName)
         ensures tasks { Changes self.old.tasks task.now unclosed_kin self.new.tasks }
         ensures room { KeepsRoom self.old self.new }
@@ -291,7 +293,7 @@ impl Wait {
         }
     }
 
-    /// The least child of the task that stands and isn't over.
+    /// The least child of the task that is there and isn't over.
     pub fn first_child(&self, task: &TaskName) -> Option<&TaskName>
         ensures { IsLeastName (IsUnendedChild self.now.tasks task.now) (option_copied result) }
     {
@@ -304,7 +306,7 @@ impl Wait {
         self.names.get(first)
     }
 
-    /// The least number above `low` of a child of the task that stands and isn't over. Takes no
+    /// The least ordinal above `low` of a child of the task that is there and isn't over. Takes no
     /// memory.
     pub fn next_unended(&self, task: &TaskName, low: u32) -> Option<u32>
         ensures { IsNextUnended self.now.tasks task.now low result }
@@ -315,7 +317,8 @@ impl Wait {
         self.tree.next_unended(at, low)
     }
 
-    /// Whether the task's child of this number stands and isn't over. Takes no memory, and no search among the children.
+    /// Whether the task's child of this ordinal is there and isn't over. Takes no memory, and no
+    /// search among the children.
     pub fn is_child_unended(&self, task: &TaskName, number: u32) -> bool
         requires { 0 < number }
         ensures unended { IsTrue result → IsUnendedChild self.now.tasks task.now (child task.now number) }
@@ -327,7 +330,7 @@ impl Wait {
         self.tree.is_child_pending(at, number)
     }
 
-    /// The least member of the task's innermost open group that stands and isn't over.
+    /// The least member of the task's innermost open group that is there and isn't over.
     pub fn first_member(&self, task: &TaskName) -> Option<&TaskName>
         ensures { IsLeastName (IsUnendedMember self.now.tasks task.now) (option_copied result) }
     {
@@ -344,7 +347,7 @@ impl Wait {
         self.names.get(first)
     }
 
-    /// What is kept of the task: whether it is over.
+    /// What is stored of the task: whether it is over.
     #[inline(always)]
     pub fn is_over(&self, task: &TaskName) -> Option<bool>
         ensures { result ≡ option_map (λ (k : Kin). k.over) (kin self.now.tasks task.now) }
@@ -355,7 +358,7 @@ impl Wait {
         rows::is_over(&self.rows, at)
     }
 
-    /// What is kept of the task: whether it is over. It is looked for at this place first, which
+    /// What is stored of the task: whether it is over. It is looked for at this index first, which
     /// may be any.
     #[inline(always)]
     pub fn is_over_near(&self, near: usize, task: &TaskName) -> Option<bool>
@@ -377,7 +380,7 @@ impl Wait {
         rows::children(&self.rows, at)
     }
 
-    /// Whether the task stands and nothing is kept of it yet, so that its spawn can be undone.
+    /// Whether the task is there and nothing is stored of it yet, so that its spawn can be undone.
     pub fn is_fresh(&self, task: &TaskName) -> bool
         ensures { result ≡ is_fresh (kin self.now.tasks task.now) }
     {
@@ -388,7 +391,7 @@ impl Wait {
     }
 
     /// For each open group of the task, the outermost first, how many children it had generated at
-    /// the group's beginning. A task that doesn't stand has none.
+    /// the group's beginning. A task that isn't there has none.
     pub fn groups(&self, task: &TaskName) -> &[u32]
         ensures { result.now ≡ reverse (groups_of (kin self.now.tasks task.now)) }
     {
@@ -410,7 +413,7 @@ impl Wait {
     }
 }
 
-// A place for a child that was never there. It doesn't stand yet.
+// An index for a child that was never there. It isn't there yet.
 fn make_place(
     names: &mut Names,
     rows: &mut Vec<Row>,
@@ -443,7 +446,7 @@ fn make_place(
     names.push(child);
 }
 
-// The task's number among the children of its parent.
+// The task's ordinal among the children of its parent.
 fn number_of(task: &TaskName) -> u32
     ensures { (n : ℕ) (t : List ℕ) → task.now ≡ n ∷ t → result ≡ n }
 {

@@ -27,7 +27,7 @@ each_more P (suc taken) place at [] p old mid new each all there one = absurd ea
 each_more P (suc taken) place at (q ∷ ps) p old mid new each all there one =
     (each.0, each.1, each_more P taken (suc place) at ps p each.0 mid new each.2 (omega (arith, all)) (omega (arith, there)) one)
 
--- plans behind those that were committed change nothing of it
+-- plans after those that were committed change nothing of it
 pub each_before : (P : Program) (taken place : ℕ) (ps qs : List Plan) (old new : Seated) → CommitsEach P taken place ps old new → CommitsEach P taken place (ps ++ qs) old new
 each_before P zero place ps qs old new each = each
 each_before P (suc taken) place [] qs old new each = absurd each

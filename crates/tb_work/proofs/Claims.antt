@@ -47,7 +47,7 @@ keeps_work s new seat Later h = keeps_seat s new seat _ h.3
 keeps_work s new seat Done h = keeps_seat s new seat _ h.2
 keeps_work s new seat Stopped h = keeps_seat s new seat _ h.1
 
--- a refusal that keeps all keeps the session
+-- a refusal that retains all retains the session
 pub session_kept : (old new : Held) (r : Result Claim AllocError) → OnErr r (new ≡ old) → OnErr r (new.session ≡ old.session)
 session_kept old new (Ok c) e = tt
 session_kept old new (Err x) e = ap (λ (h : Held). h.session) e

@@ -1,4 +1,4 @@
--- What a desk keeps, and what an entry more leaves of it.
+-- What a desk retains, and what an entry more leaves of it.
 use Rattle.std.proofs.Common.{ℕ, ◌+◌, ◌<◌, ◌≤◌, ◌≡◌, suc, List, [], ◌∷◌, ◌++◌, Some, Option, map, take, drop, length, get_or, refl, ap, sym, subst, ◌∙◌, arith, length-set}
 use Rattle.std.specs.Prelude.{slice_index}
 use Rattle.std.proofs.lemmas.List.{map-append, reverse-append, length-map, length-reverse, length-take, take-append-le, drop-append-le}
@@ -34,7 +34,7 @@ begins_more es begun e begins =
     let within : length begun ≤ length es = omega (arith, ap length begins, length-take (length begun) es) in
     rw take-append-le begins
 
--- what is told of the run, its notes and its book
+-- what is said of the run, its notes and its book
 pub record Agrees (P : Program) (limit : ℕ) (points : Points) (seats : ℕ) (slots : Slots) (begun : List Entry) (s : Session) (total : ℕ) (cells : List ℕ) (known : List (Option Entry)) : Type 0 where
   pub program : s.program ≡ P
   pub limited : s.limit ≡ limit

@@ -1,4 +1,5 @@
--- Places of several rows, each of which rises and has only places that its own row owns, are distinct.
+-- Slots of several rows, each of which rises and has only slots that its own row owns, are
+-- distinct.
 use Rattle.std.proofs.Common.{ℕ, ◌+◌, ◌<◌, ◌≤◌, ◌≡◌, ◌≢◌, suc, List, [], ◌∷◌, ◌++◌, Bool, true, false, cond, nat_eq, nat_lt, length, get_or, refl, ap, sym, subst, ◌∙◌, arith}
 use Rattle.std.proofs.lemmas.Bool.Decides.{nat_tests}
 use Rattle.tb_work.proofs.Numbered.{Rises}
@@ -46,7 +47,7 @@ at_most_one q n (p ∷ ps) up = by (nat_eq p q) refl (at_most_one q p ps up.1)
         let none : hit q p ≡ 0 = ap (λ b. cond b 1 0) is in
         omega (arith, none, rest)
 
--- all places of the row are owned by n
+-- all slots of the row are owned by n
 abbrev pub Owned : (ℕ → ℕ) → ℕ → List ℕ → Type 0
 Owned own n [] = Unit {0}
 Owned own n (p ∷ ps) = (own p ≡ n) × Owned own n ps
@@ -57,7 +58,7 @@ not_owned own q n (p ∷ ps) o ne =
     let apart : p ≢ q = λ e. ne (ap own (sym e) ∙ o.0) in
     omega (arith, hit_none q p apart, not_owned own q n ps o.1 ne)
 
--- rows by their owners, one behind the other
+-- rows by their owners, one after the other
 abbrev pub concat : List (ℕ × List ℕ) → List ℕ
 concat [] = []
 concat (r ∷ rs) = r.1 ++ concat rs

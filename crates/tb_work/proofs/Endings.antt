@@ -18,7 +18,7 @@ use Rattle.tb_work.specs.Ending.{IsTurn}
 use Rattle.tb_work.specs.Going.{turn_behind}
 
 module _ (P : Program) (limit : ℕ) (points : Points) (seats : ℕ) (begun : List Entry) (seat : ℕ) where
-  -- behind the refusal of a burst
+  -- after the refusal of a burst
   pub ends_behind : (ps : List Plan) (b : Burst) (r : Refused CommitRefusal) (t : Turn) → IsAnswer P limit points seats begun (TakesBurst seat ps b)
       → b.refusal ≡ Some r → turn_behind r ≡ t → IsTurn P limit points seats begun seat t
   ends_behind ps b r On a refused behind = tt

@@ -14,7 +14,7 @@ use Rattle.tb_work.specs.Growing.{is_step_of, all_steps_of, GrewBySteps}
 pub grew_none : (s : Seated) → GrewBySteps s s
 grew_none s = record { number = refl; more = []; receipts = sym (append-nil s.receipts); steps = refl }
 
--- it stayed
+-- a seat that stays has grown by the same steps
 pub grew_same : (s t u : Seated) → GrewBySteps s t → u ≡ t → GrewBySteps s u
 grew_same s t u w is = subst (GrewBySteps s) (sym is) w
 
@@ -26,7 +26,7 @@ steps_both seat (x ∷ rs) ss is more =
     let both = steps_both seat rs ss rest more in
     grind arith
 
--- it grew twice
+-- a seat that grew twice grew by the steps of both
 pub grew_both : (s t u : Seated) → GrewBySteps s t → GrewBySteps t u → GrewBySteps s u
 grew_both s t u v w =
     let own : all_steps_of s.number w.more ≡ true = subst (λ n. all_steps_of n w.more ≡ true) v.number w.steps in
@@ -37,7 +37,7 @@ grew_both s t u v w =
       steps = steps_both s.number v.more w.more v.steps own;
     }
 
--- it grew by the step of a plan
+-- a commit grows the seat by the step of a plan
 pub grew_committed : (P : Program) (p : Plan) (s t : Seated) (place : ℕ) → Commits P p s t place → GrewBySteps s t
 grew_committed P p s t place c =
     record {

@@ -37,7 +37,7 @@ none_of None false is = absurd (false≢true is)
 none_of (Some u) true is = absurd (false≢true (sym is))
 none_of (Some u) false is = refl
 
--- the answer tells whether all are over
+-- the answer says whether all are over
 pub tells_over : (H K : History) (o : Option (Bor Name)) (r : Bool) → H ≡ K → IsLeastName (IsUnendedBehind H None) (option_copied o) → is_some o ≡ not r
     → (IsTrue r ↔ ((t : Name) → IsTrue (is_spawned K t) → IsTrue (list_any (ends t) K)))
 tells_over H K o r same least is =

@@ -32,7 +32,7 @@ use Rattle.tb_work.specs.Bursts.{stepped_on}
 use Rattle.tb_work.specs.Receipts.{Seated, Grew}
 use Rattle.tb_work.specs.Refusing.{RefusesPlan, RefusesRoll, RefusesUndo}
 
--- a task that nothing keeps from its step is there, and goes on
+-- a task that nothing blocks from its step is there, and goes on
 goes_on : (there over : Bool) (o : Option Refusal) → cond (not there) (Some NoSuchTask) (cond over (Some Ended) o) ≡ None → (there ≡ true) × (over ≡ false)
 goes_on true false o is = (refl, refl)
 goes_on true true o is = absurd (none-some Ended (sym is))
@@ -44,7 +44,7 @@ short_of_memory s seat p m =
     let task = goes_on (is_spawned (history s) p.config.task) (list_any (ends p.config.task) (history s)) _ m.may.unrefused in
     (m.claimed, (task.0, task.1, (λ u n. m.may.room), (λ h u is. absurd (none-some (By h) (sym m.may.unrefused ∙ is)))))
 
--- what keeps the step, as the run tells it
+-- what blocks the step, as the run says it
 pub kept_step : (run : Seen) (s : Session) (seat : ℕ) (i : StepId) (e : UndoRefusal) → core.history run ≡ history s → Keeps run i e → UndoneFor seat s i s (Err e)
 kept_step run s seat i NoSuchStep same k = (refl, subst (λ (H : History). IsFalse (stands i H)) same k)
 kept_step run s seat i (Needed by) same k = (refl, subst (λ (H : History). IsTrue (stands i H)) same k.0, subst (λ (H : History). first_needer i H ≡ Some by) same k.1)
@@ -65,7 +65,7 @@ pub no_room : (run : Seen) (s : Session) (seat : ℕ) (i : StepId) → core.hist
 no_room run s seat i same free k =
     (refl, k.0, (λ none. k.1), (λ by is. absurd (none-some by (sym free.unneeded ∙ (ap (λ (H : History). first_needer i H) same ∙ is)))))
 
--- ---- the same behind what left the run as it was, for the seat of this number
+-- ---- the same after what left the run as it was, for the seat of this number
 
 pub plan_kept : (s mid : Session) (n seat : ℕ) (p : Plan) (r : Refused CommitRefusal) → mid ≡ s → n ≡ seat → RefusesPlan n mid p r → RefusesPlan seat s p r
 plan_kept s mid n seat p r same named why =

@@ -4,7 +4,7 @@ use Rattle.std.proofs.lemmas.Bool.Decides.{nat_tests}
 use Rattle.tb_model.specs.declared.entry.Entry.{Entry}
 use Rattle.tb_journal.specs.Journals.{seat_of, all_below}
 
--- what holds at each place, and of what is written to one, holds at each place then
+-- what holds at each slot, and of what is written to one, holds at each slot then
 pub each_set : {X : Type 0} (P : ℕ → X → Type 0) (xs : List X) (k : ℕ) (x : X) → ((i : ℕ) (d : X) → i < length xs → P i (get_or xs i d)) → P k x → (i : ℕ) (d : X) → i < length (set xs k x) → P i (get_or (set xs k x) i d)
 each_set P [] k x each at i d lt = absurd (omega (arith, lt))
 each_set P (y ∷ xs) zero x each at zero d lt = at

@@ -6,7 +6,7 @@ use Rattle.tb_work.specs.declared.told.Told.{Told}
 use Rattle.tb_work.specs.Slots.{Slots, cells_in, cells_of}
 use Rattle.tb_work.proofs.Standing.{told_at}
 
--- the slots before the first that has a cell stand for nothing
+-- the slots before the first that has a cell mean nothing
 pub slots_length : (f : ℕ) (cs : List ℕ) → length (replicate f 0 ++ cs) ≡ f + length cs
 slots_length f cs = length-append (replicate f 0) cs ∙ ap (λ n. n + length cs) (length-replicate f 0)
 

@@ -7,7 +7,7 @@ use Rattle.tb_model.specs.declared.entry.Entry.{Entry}
 use Rattle.tb_work.specs.declared.receipt.Receipt.{Receipt}
 use Rattle.tb_work.specs.Receipts.{Seated, first_gap, all_receipts, receipts_in}
 
--- what the notes say of a place is the journal's entry there
+-- what the notes say of a slot is the journal's entry there
 pub told_at : (entries : List Entry) (p : ℕ) (d : Entry) → p < length entries → slice_get (map (λ e. Some e) entries) p ≡ Some (Some (get_or entries p d))
 told_at [] p d lt = absurd (omega (arith, lt))
 told_at (e ∷ es) zero d lt = refl

@@ -1,18 +1,18 @@
--- One entry more is told.
+-- One entry more is noted.
 use Rattle.std.proofs.Common.{◌≡◌, ◌+◌, ◌<◌, ◌≤◌, ℕ, zero, suc, List, [], ◌∷◌, ◌++◌, map, take, drop, length, get_or, Some, refl, sym, ap, ◌∙◌, arith}
 use Rattle.std.specs.Prelude.{slice_index}
 use Rattle.std.proofs.lemmas.List.{drop-append-le, length-take, map-append}
 use Rattle.std.proofs.Math.Seq.{take-suc}
 use Rattle.tb_model.specs.declared.entry.Entry.{Entry}
 
--- of a part that begins behind the first ones
+-- of a part that begins after the first ones
 one_more : {X : Type 0} (f : ℕ) (xs : List X) (n : ℕ) (d : X) → f ≤ n → n < length xs → drop f (take n xs) ++ get_or xs n d ∷ [] ≡ drop f (take (n + 1) xs)
 one_more f xs n d from lt =
     let on : suc n ≡ n + 1 = omega arith in
     let long : f ≤ length (take n xs) = omega (arith, from, lt, length-take n xs) in
     sym (drop-append-le f (take n xs) (get_or xs n d ∷ []) long) ∙ ap (drop f) (sym (take-suc xs n d lt) ∙ ap (λ k. take k xs) on)
 
--- none is told at first
+-- none is noted at first
 pub none_yet : {X : Type 0} (f n : ℕ) (xs : List X) → n ≤ f → drop f (take n xs) ≡ []
 none_yet zero zero xs le = refl
 none_yet zero (suc n) xs le = absurd (omega (arith, le))

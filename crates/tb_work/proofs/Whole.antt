@@ -1,4 +1,5 @@
--- Receipts of all seats that stand in the journal from a place on, and are as many as its entries from there, are all of these by place.
+-- Receipts of all seats that are in the journal from a slot on, and are as many as its entries from
+-- there, are all of these by slot.
 use Rattle.std.proofs.Common.{ℕ, ◌+◌, ◌<◌, ◌≤◌, ◌≡◌, ◌≢◌, zero, suc, List, [], ◌∷◌, ◌++◌, Bool, true, false, cond, nat_eq, nat_lt, map, take, drop, length, length-drop, get_or, refl, ap, sym, subst, ◌∙◌, arith, All, None, Some, length-append, append_assoc}
 use Rattle.std.proofs.lemmas.Bool.Decides.{nat_tests}
 use Rattle.std.proofs.lemmas.List.{length-map, length-take, take-append-drop, get_or-map}
@@ -16,14 +17,14 @@ use Rattle.tb_work.specs.Receipts.{Seated, HaveOwnNumbers, receipt, rises_from, 
 use Rattle.tb_work.proofs.Numbered.{Rises, AllAtMost, all_places, from as run_from}
 use Rattle.tb_work.proofs.Distinct.{hit, hits, hits-append, Owned, concat, Apart, Good, once, strict}
 
--- a receipt's place
+-- a receipt's slot
 abbrev pub place_of : Receipt → ℕ
 place_of r = r.place
 
 abbrev pub places : List Receipt → List ℕ
 places rs = map place_of rs
 
--- r is the journal's entry at its place
+-- r is the journal's entry at its slot
 abbrev pub IsAt : List Entry → Receipt → Type 0
 IsAt J r = (r.place < length J) × (get_or J r.place r.entry ≡ r.entry)
 
@@ -58,7 +59,7 @@ no_gap n (r ∷ rs) is = by (nat_lt r.place n) refl is (no_gap n rs)
 at_their_places : (J : List Entry) (rs : List Receipt) → first_gap (length J) rs ≡ None → All (Stands J) rs → All (IsAt J) rs
 at_their_places J rs is stand k d lt = (no_gap (length J) rs is k d lt, stand k d lt (no_gap (length J) rs is k d lt))
 
--- ---- each seat's places rise, and are its own
+-- ---- each seat's slots rise, and are its own
 
 rises_of : (n : ℕ) (rs : List Receipt) → rises_from n rs ≡ true → Rises n (places rs)
 rises_of n [] is = tt
@@ -67,7 +68,7 @@ rises_of n (r ∷ rs) is =
     let rest : rises_from r.place rs ≡ true = grind arith in
     (grind (arith, nat_tests), rises_of r.place rs rest)
 
--- whose entry stands at the place
+-- whose entry is at the slot
 abbrev pub own : List Entry → ℕ → ℕ
 own J q = seat_of (get_or J q Opened)
 
@@ -108,7 +109,7 @@ good_rows J (s ∷ ss) numbers rows at =
       good_rows J ss (λ i j d lt below same. one_less i j (numbers (suc i) (suc j) d (omega (arith, lt)) (omega (arith, below)) same)) (all_tail IsRow s ss rows) (all_right (IsAt J) s.receipts (all_receipts ss) at),
     )
 
--- ---- how often a place stands in a list of receipts
+-- ---- how often a slot is in a list of receipts
 
 hits_summed : (q : ℕ) (rs : List Receipt) → hits q (places rs) ≡ sum_by (λ r. hit q r.place) rs
 hits_summed q [] = refl
@@ -134,7 +135,7 @@ get_at : {X : Type 0} (xs : List X) (y : X) (ys : List X) (d : X) → get_or (xs
 get_at [] y ys d = refl
 get_at (x ∷ xs) y ys d = get_at xs y ys d
 
--- receipts at places that follow one another are the entries there
+-- receipts at slots that follow one another are the entries there
 spelled : (J front back : List Entry) (rs : List Receipt) (a : ℕ) → J ≡ front ++ back → length front ≡ a + 1 → length back ≡ length rs
     → places rs ≡ run_from a (length rs) → All (IsAt J) rs → rs ≡ receipts_from (a + 1) back
 spelled J front [] [] a is long same ps at = refl
@@ -152,7 +153,7 @@ spelled J front (e ∷ back) (r ∷ rs) a is long same ps at =
     let others : rs ≡ receipts_from (suc (a + 1)) back = rest ∙ ap (λ k. receipts_from k back) (omega arith) in
     ap (λ x. x ∷ rs) first ∙ ap (λ l. receipt (a + 1) e ∷ l) others
 
--- the places are all above it
+-- the slots are all above it
 lowest : (a : ℕ) (xs : List Receipt) → All (λ r. a + 1 ≤ r.place) xs → 0 < length (places xs) → a < get_or (places xs) 0 0
 lowest a [] from lt = absurd (omega (arith, lt))
 lowest a (r ∷ rs) from lt = let first = all_head (λ x. a + 1 ≤ x.place) r rs from in omega (arith, first)

@@ -1,4 +1,4 @@
--- Why a run takes no more steps.
+-- Why a run executes no more steps.
 use Rattle.std.proofs.Common.{◌≡◌, subst, Some}
 use Rattle.std.specs.Prelude.{⊤}
 use Rattle.std.proofs.lemmas.Option.{none-some, same_Some}
@@ -10,7 +10,7 @@ use Rattle.tb_work.specs.declared.why.Why.{Why}
 use Rattle.tb_work.specs.declared.why.Why.TheVariants.{Break, Limit, Done, Full, Asked}
 use Rattle.tb_work.specs.Going.{IsWhy, paused_for}
 
--- a pause is told as one
+-- a pause is reported as one
 abbrev IsPausing : Why → Type 0
 IsPausing Break = ⊤
 IsPausing Limit = ⊤

@@ -1,4 +1,4 @@
--- What a call answers behind the lock.
+-- What a call answers under the lock.
 use Rattle.std.specs.Prelude.{ℕ, ◌≡◌, ◌≤◌, List, length, take, Result, Ok, Err, None, Vec}
 use Rattle.std.specs.declared.alloc.AllocError.{AllocError}
 use Rattle.std.specs.declared.alloc.Global.{Global}
@@ -33,8 +33,8 @@ use Rattle.tb_work.specs.Going.{IsWhy}
 use Rattle.tb_work.specs.Receipts.{Seated, Grew}
 use Rattle.tb_work.specs.Refusing.{RefusesPlan, RefusesRoll, RefusesUndo}
 
--- what each run keeps: its journal is sound and within its limit, the history that it leaves is legal for the program, each
--- claim is on a task that is there, and no task is claimed by two
+-- what each run retains: its journal is sound and within its limit, the history that it leaves is
+-- legal for the program, each claim is on a task that is there, and no task is claimed by two
 pub record IsRun (s : Session) : Type 0 where
   pub sound : Sound s.program s.journal
   pub within : length s.journal ≤ s.limit
@@ -58,11 +58,12 @@ pub record IsAnswer (P : Program) (limit : ℕ) (points : Points) (seats : ℕ) 
   pub team : IsOfTeam P limit points seats begun old
   pub right : IsRight old new
 
--- the run's newest entry is the seat's newest receipt, at the place that the journal had next, which is above its last one
+-- the run's newest entry is the seat's newest receipt, at the slot that the journal had next, which
+-- is above its last one
 abbrev pub Takes : Session → Entry → Seated → Seated → Type 0
 Takes s entry old seat = Grew old seat (length s.journal) entry
 
--- a commit by its answer, the place of its entry: the step ends the claim; a refusal changes nothing
+-- a commit by its answer, the slot of its entry: the step ends the claim; a refusal changes nothing
 abbrev pub CommitsBy : Seated → Seated → Plan → Result ℕ (Refused CommitRefusal) → Session → Session → Type 0
 CommitsBy old seat p (Ok place) s new =
     MayCommit s old.number p × (place ≡ length s.journal) × (new ≡ with_entry s (entry_to_come old.number s p)) × Takes s (entry_to_come old.number s p) old seat
@@ -105,6 +106,6 @@ Resumes s new = new ≡ with_mode s Resumed
 abbrev pub ResumesFor : ℕ → Session → Session → Type 0
 ResumesFor steps s new = new ≡ with_mode s (modes.counting steps)
 
--- the run tells why it takes no step, and stays as it is
+-- the run says why it executes no step, and stays as it is
 abbrev pub Tells : Why → Session → Session → Type 0
 Tells w s new = (new ≡ s) × IsWhy s w

@@ -11,13 +11,14 @@ use Rattle.tb_work.specs.Changes.{Commits}
 use Rattle.tb_work.specs.Receipts.{Seated}
 use Rattle.tb_work.specs.Refusing.{RefusesPlan}
 
--- the first so many plans are the seat's newest receipts, one by one, at places that follow one another from this place on
+-- the first so many plans are the seat's newest receipts, one by one, at slots that follow one
+-- another from this slot on
 abbrev pub CommitsEach : Program → ℕ → ℕ → List Plan → Seated → Seated → Type 0
 CommitsEach P zero place ps old new = new ≡ old
 CommitsEach P (suc taken) place [] old new = ⊥
 CommitsEach P (suc taken) place (p ∷ ps) old new = (mid : Seated) × Commits P p old mid place × CommitsEach P taken (suc place) ps mid new
 
--- as many as the burst tells are committed, and all of them where none is refused
+-- as many as the burst says are committed, and all of them where none is refused
 pub record CommitsBurst (P : Program) (plans : List Plan) (old new : Seated) (b : Burst) : Type 0 where
   pub place : ℕ
   pub each : CommitsEach P b.taken place plans old new
@@ -25,7 +26,7 @@ pub record CommitsBurst (P : Program) (plans : List Plan) (old new : Seated) (b 
 
 -- ---- the same of the run
 
--- the plan's step is taken for the seat, which claims the task still
+-- the plan's step is executed for the seat, which claims the task still
 abbrev pub stepped_on : ℕ → Session → Plan → Session
 stepped_on seat s p = with_seat (with_entry s (entry_to_come seat s p)) seat (Some p.config.task)
 
@@ -37,14 +38,14 @@ TakesEach seat zero (p ∷ ps) o s last = (last ≡ s) × IfSome o (RefusesPlan 
 TakesEach seat (suc taken) [] o s last = ⊥
 TakesEach seat (suc taken) (p ∷ ps) o s last = MayCommit s seat p × TakesEach seat taken ps o (stepped_on seat s p) last
 
--- so many plans are taken, and then the claim ends
+-- so many plans are executed, and then the claim ends
 pub record TakesBurst (seat : ℕ) (plans : List Plan) (b : Burst) (old new : Session) : Type 0 where
   pub last : Session
   pub each : TakesEach seat b.taken plans b.refusal old last
   pub ended : new ≡ with_seat last seat None
 
--- so many plans are taken, then the claim ends, and the seat's newest receipts are of their
--- entries, from the journal's next place on
+-- so many plans are executed, then the claim ends, and the seat's newest receipts are of their
+-- entries, from the journal's next slot on
 pub record BurstsBy (P : Program) (old seat : Seated) (plans : List Plan) (b : Burst) (s new : Session) : Type 0 where
   pub takes : TakesBurst old.number plans b s new
   pub each : CommitsEach P b.taken (length s.journal) plans old seat

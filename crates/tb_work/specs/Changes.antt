@@ -13,7 +13,7 @@ use Rattle.tb_work.specs.Receipts.{Seated, Grew}
 abbrev pub entries : Session → List Entry
 entries s = reverse s.journal
 
--- the event is the plan's, for some number that a load reads and for some number of a spawned child
+-- the event is the plan's, for some value that a load reads and for some ordinal of a spawned child
 pub record IsPlanned (P : Program) (p : Plan) (v : Event) : Type 0 where
   pub task : v.task ≡ p.config.task
   pub child : ℕ

@@ -1,4 +1,4 @@
--- What a seat is told that asks for work, and what that leaves of the run.
+-- What a seat gets that asks for work, and what that leaves of the run.
 use Rattle.std.specs.Prelude.{◌≡◌, List, [], ◌∷◌, length, ⊤}
 use Rattle.tb_model.specs.Facts.{History}
 use Rattle.tb_model.specs.Names.{Name}
@@ -16,7 +16,8 @@ use Rattle.tb_next.specs.declared.offer.Offer.TheVariants.{Task}
 use Rattle.tb_next.specs.declared.situated.Situated.{Situated}
 use Rattle.tb_live.specs.Working.{IsSituated, IsWork}
 
--- the program's statement for the task, in its situation behind some history, and the private ones around it
+-- the program's statement for the task, in its situation after some history, and the private ones
+-- around it
 pub record IsWorkFor (P : Program) (t : Name) (w : Work) : Type 0 where
   pub line : w.instr.line ≡ w.config.at
   pub history : History
@@ -26,7 +27,7 @@ abbrev pub IsClaim : Program → Claim → Type 0
 IsClaim P (Works w) = IsWorkFor P w.config.task w
 IsClaim P _ = ⊤
 
--- the program's statement for the task, in its situation behind some history
+-- the program's statement for the task, in its situation after some history
 pub record IsTask (P : Program) (n : Situated) : Type 0 where
   pub line : n.instr.line ≡ n.config.at
   pub history : History
@@ -41,7 +42,7 @@ abbrev pub IsOffer : Program → Offer → Type 0
 IsOffer P (Task n) = IsTask P n
 IsOffer P _ = ⊤
 
--- the journal, the breakpoints and the number of seats are as they were
+-- the journal, the breakpoints and the count of seats are as they were
 pub record Keeps (old new : Session) : Type 0 where
   pub program : new.program ≡ old.program
   pub limit : new.limit ≡ old.limit

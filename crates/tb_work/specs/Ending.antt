@@ -1,4 +1,4 @@
--- What the run told a seat whose worker ended.
+-- What the run answered a seat whose worker ended.
 use Rattle.std.specs.Prelude.{ℕ, ◌≡◌, ◌⊎◌, List, Some, ⊤}
 use Rattle.tb_model.specs.declared.entry.Entry.{Entry}
 use Rattle.tb_model.specs.Program.{Program}
@@ -27,14 +27,14 @@ pub record EndsBurst (seat : ℕ) (ended : Ended) (s new : Session) : Type 0 whe
   pub behind : turn_behind refusal ≡ Over ended
   pub takes : TakesBurst seat plans burst s new
 
--- a worker ends well where no task can step, where the run is paused or its journal is full, or after such a refusal; where it
--- wants memory, the run tells nothing
+-- a worker ends well where no task can step, where the run is paused or its journal is full, or
+-- after such a refusal; where it wants memory, the run says nothing
 abbrev pub IsEnding : ℕ → Ended → Session → Session → Type 0
 IsEnding seat Well s new = ClaimsWork s seat new Done ⊎ ClaimsWork s seat new Stopped ⊎ EndsBurst seat Well s new
 IsEnding seat CellTaken s new = EndsBurst seat CellTaken s new
 IsEnding seat Memory s new = ⊤
 
--- a turn after which the worker ends is one by what the run told it
+-- a turn after which the worker ends is one by what the run answered it
 abbrev pub IsTurn : Program → ℕ → Points → ℕ → List Entry → ℕ → Turn → Type 0
 IsTurn P limit points seats begun seat On = ⊤
 IsTurn P limit points seats begun seat Later = ⊤

@@ -1,4 +1,4 @@
--- How a worker goes on, and why no worker takes a further step.
+-- How a worker goes on, and why no worker executes a further step.
 use Rattle.std.specs.Prelude.{◌≡◌, Option, Some, None, IsTrue, IsFalse}
 use Rattle.tb_model.specs.Names.{Name}
 use Rattle.tb_model.specs.Facts.{is_spawned}
@@ -18,8 +18,8 @@ use Rattle.tb_work.specs.declared.turn.Turn.TheVariants.{On, Over}
 use Rattle.tb_work.specs.declared.why.Why.{Why}
 use Rattle.tb_work.specs.declared.why.Why.TheVariants.{Break, Limit, Done, Full, Asked}
 
--- by the refusal of a commit: a pause and a full journal end the worker well; a cell that is taken and want of memory end it,
--- and are told; else it claims again
+-- by the refusal of a commit: a pause and a full journal end the worker well; a cell that is taken
+-- and want of memory end it, and are noted; else it claims again
 abbrev pub turn_behind : Refused CommitRefusal → Turn
 turn_behind CellTaken = Over ByCell
 turn_behind (Run Paused) = Over Well

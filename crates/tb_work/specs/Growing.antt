@@ -14,13 +14,13 @@ abbrev pub all_steps_of : ℕ → List Receipt → Bool
 all_steps_of seat [] = true
 all_steps_of seat (r ∷ rs) = is_step_of seat r.entry && all_steps_of seat rs
 
--- the seat kept its number, and its receipts grew at the end by steps of its own
+-- the seat retained its number, and its receipts grew at the end by steps of its own
 pub record GrewBySteps (old new : Seated) : Type 0 where
   pub number : new.number ≡ old.number
   pub more : List Receipt
   pub receipts : new.receipts ≡ old.receipts ++ more
   pub steps : all_steps_of old.number more ≡ true
 
--- so did each seat
+-- each seat grew by steps of its own
 abbrev pub AllGrew : List Seated → List Seated → Type 0
 AllGrew old new = (i : ℕ) (d : Seated) → i < length old → GrewBySteps (slice_index_or old i d) (slice_index_or new i d)

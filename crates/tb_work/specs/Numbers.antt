@@ -1,4 +1,4 @@
--- The refusals by their numbers.
+-- The refusals by their codes.
 use Rattle.std.specs.Prelude.{ℕ}
 use Rattle.tb_work.specs.declared.adopt_refusal.AdoptRefusal.{AdoptRefusal}
 use Rattle.tb_work.specs.declared.adopt_refusal.AdoptRefusal.TheVariants.{Memory, CellTaken}

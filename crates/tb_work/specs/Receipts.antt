@@ -1,4 +1,4 @@
--- Receipts: the places of a journal at which a seat made entries, and these entries.
+-- Receipts: the slots of a journal at which a seat made entries, and these entries.
 use Rattle.std.specs.Prelude.{ℕ, ◌<◌, ◌≡◌, List, [], ◌∷◌, ◌++◌, Bool, true, ◌&&◌, nat_lt, nat_eq, length, suc, slice_index_or, Option, Some, None, if◌then◌else◌, flat_map}
 use Rattle.std.specs.List.{sum_by}
 use Rattle.tb_model.specs.declared.entry.Entry.{Entry}
@@ -13,12 +13,12 @@ pub record Seated : Type 0 where
 abbrev pub receipt : ℕ → Entry → Receipt
 receipt place entry = record { place = place; entry = entry }
 
--- the place of the last receipt, or n
+-- the slot of the last receipt, or n
 abbrev pub last_from : ℕ → List Receipt → ℕ
 last_from n [] = n
 last_from n (r ∷ rs) = last_from r.place rs
 
--- each place is above the one before, and the first above n
+-- each slot is above the one before, and the first above n
 abbrev pub rises_from : ℕ → List Receipt → Bool
 rises_from n [] = true
 rises_from n (r ∷ rs) = nat_lt n r.place && rises_from r.place rs
@@ -28,14 +28,14 @@ abbrev pub all_of : ℕ → List Receipt → Bool
 all_of seat [] = true
 all_of seat (r ∷ rs) = nat_eq (seat_of r.entry) seat && all_of seat rs
 
--- the places of a seat's receipts rise, and their entries are the seat's
+-- the slots of a seat's receipts rise, and their entries are the seat's
 pub record IsRow (s : Seated) : Type 0 where
   pub rises : rises_from 0 s.receipts ≡ true
   pub own : all_of s.number s.receipts ≡ true
 
 -- ---- receipts that grow
 
--- a change of the seat was made: its receipts grew by this entry, at a place above the last one
+-- a change of the seat was made: its receipts grew by this entry, at a slot above the last one
 pub record Grew (old new : Seated) (place : ℕ) (entry : Entry) : Type 0 where
   pub number : new.number ≡ old.number
   pub receipts : new.receipts ≡ old.receipts ++ receipt place entry ∷ []
@@ -51,7 +51,7 @@ HaveNumbers seats = (i : ℕ) (d : Seated) → i < length seats → (slice_index
 abbrev pub HaveOwnNumbers : List Seated → Type 0
 HaveOwnNumbers seats = (i j : ℕ) (d : Seated) → i < length seats → j < length seats → (slice_index_or seats i d).number ≡ (slice_index_or seats j d).number → i ≡ j
 
--- each seat's last place is below n
+-- each seat's last slot is below n
 abbrev pub AreBelow : ℕ → List Seated → Type 0
 AreBelow n seats = (i : ℕ) (d : Seated) → i < length seats → last_from 0 (slice_index_or seats i d).receipts < n
 
@@ -65,16 +65,16 @@ all_receipts seats = flat_map (λ s. s.receipts) seats
 
 -- ---- receipts against the journal, listed from its oldest entry
 
--- the first place that is not below n
+-- the first slot that is not below n
 abbrev pub first_gap : ℕ → List Receipt → Option ℕ
 first_gap n [] = None
 first_gap n (r ∷ rs) = (if nat_lt r.place n then first_gap n rs else Some r.place)
 
--- where the journal has its place, the receipt's entry is the journal's there
+-- where the journal has its slot, the receipt's entry is the journal's there
 abbrev pub Stands : List Entry → Receipt → Type 0
 Stands entries r = r.place < length entries → slice_index_or entries r.place r.entry ≡ r.entry
 
--- each entry with its place, from place n on
+-- each entry with its slot, from slot n on
 abbrev pub receipts_from : ℕ → List Entry → List Receipt
 receipts_from n [] = []
 receipts_from n (e ∷ es) = receipt n e ∷ receipts_from (suc n) es

@@ -1,4 +1,5 @@
--- Why a change isn't made that a seat asks for: the run refuses it, or it would take it and the cell of the entry's place is taken.
+-- Why a change isn't made that a seat asks for: the run refuses it, or it would take it and the
+-- cell of the entry's slot is taken.
 use Rattle.std.specs.Prelude.{ℕ, IsTrue, IsFalse, Err}
 use Rattle.tb_model.specs.declared.step_id.StepId.{StepId}
 use Rattle.tb_model.specs.Equivalent.{stands}

@@ -3,7 +3,8 @@ use Rattle.std.specs.Prelude.{ℕ, List, Option, Some, map, take, drop}
 use Rattle.tb_model.specs.declared.entry.Entry.{Entry}
 use Rattle.tb_work.specs.declared.told.Told.{Told}
 
--- the first of them, and the names of the cells by their slots; those before the first have none, and stand for nothing
+-- the first of them, and the names of the cells by their slots; those before the first have none,
+-- and mean nothing
 pub record Slots : Type 0 where
   pub first : ℕ
   pub cells : List ℕ

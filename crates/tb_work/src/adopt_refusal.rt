@@ -12,12 +12,12 @@ use std::alloc::AllocError;
 pub enum AdoptRefusal {
     /// 0: A growth was refused.
     Memory,
-    /// 11: The cell of a place that stands is written already.
+    /// 11: The cell of a slot that is there is written already.
     CellTaken,
 }
 
 impl AdoptRefusal {
-    /// The number by which the refusal is known.
+    /// The code by which the refusal is known.
     pub fn number(&self) -> u8
         ensures { result ≡ adopt_number self.now }
     {

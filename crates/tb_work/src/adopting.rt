@@ -46,7 +46,7 @@ fn is_within(live: &Live)
     live.journal_is_sound();
 }
 
-/// Room for so many receipts.
+/// Capacity for so many receipts.
 fn room_for(alloc: Global, count: u32) -> Result<Vec<Receipt>, AllocError>
     ensures none { IfOk result (λ room. vec_len room ≡ 0) }
     ensures room { IfOk result (λ room. count ≤ vec_capacity room) }
@@ -76,7 +76,7 @@ fn seats_for<N: Team>(
     Ok(seats)
 }
 
-/// Gives the receipt of the entry at the place to the seat that made it.
+/// Gives the receipt of the entry at the slot to the seat that made it.
 fn give<N: Team>(
     alloc: Global,
     places: &Places,

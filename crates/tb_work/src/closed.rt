@@ -3,7 +3,7 @@
 use crate::receipt::Receipt;
 use tb_live::Live;
 
-/// The run, and the receipts of all seats by their places.
+/// The run, and the receipts of all seats by their slots.
 #[derive(Drop)]
 pub struct Closed {
     pub live: Live,

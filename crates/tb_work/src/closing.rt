@@ -143,8 +143,8 @@ fn release(live: &mut Live)
 }
 
 impl<N: Team> Shared<N> {
-    /// Gives the run back, without claims, and the receipts of all seats by their places. A receipt whose
-    /// place the journal doesn't have is a gap.
+    /// Gives the run back, without claims, and the receipts of all seats by their slots. A receipt
+    /// whose slot the journal doesn't have is a gap.
     pub fn close(self, seats: Vec<Seat<N>>) -> Result<Closed, Gap>
         requires all { vec_len seats ≡ N.seats }
         requires parts { N.seats ≡ N.parts }

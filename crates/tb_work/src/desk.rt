@@ -52,7 +52,7 @@ pub struct Desk<N: Team> {
     pub book: Book<N>,
     // takes the seats' shares at the end
     pub spare: Share<N>,
-    // room for the receipts of all seats
+    // capacity for the receipts of all seats
     pub room: Vec<Receipt>,
     pub ghost program: { live.session.program ≡ N.program },
     pub ghost limit: { live.session.limit ≡ N.limit },
@@ -75,7 +75,7 @@ impl<N: Team> Desk<N> {
         run_is_sound(&self.live);
     }
 
-    /// Prepares, writes the entry to the place's cell, and commits. The claim ends.
+    /// Prepares, writes the entry to the slot's cell, and commits. The claim ends.
     pub fn commit(
         &mut self,
         places: &Places,
@@ -171,7 +171,7 @@ impl<N: Team> Desk<N> {
         }
     }
 
-    /// Prepares, writes the entry to the place's cell, and commits. The seat claims the task still.
+    /// Prepares, writes the entry to the slot's cell, and commits. The seat claims the task still.
     fn commit_more(
         &mut self,
         places: &Places,
@@ -214,7 +214,8 @@ impl<N: Team> Desk<N> {
         Ok(take_more(live, seat.number(), plan))
     }
 
-    /// Prepares, writes the entry to the place's cell, and takes the step back with all that need it.
+    /// Prepares, writes the entry to the slot's cell, and takes the step back with all that need
+    /// it.
     pub fn roll(
         &mut self,
         places: &Places,
@@ -275,7 +276,8 @@ impl<N: Team> Desk<N> {
         Ok(take_back_all(live, seat.number(), id))
     }
 
-    /// Prepares, writes the entry to the place's cell, and takes the step back, where nothing needs it.
+    /// Prepares, writes the entry to the slot's cell, and takes the step back, where nothing needs
+    /// it.
     pub fn undo(
         &mut self,
         places: &Places,
@@ -412,7 +414,7 @@ impl<N: Team> Desk<N> {
         resume_for(&mut self.live, steps);
     }
 
-    /// Why no step is taken now.
+    /// Why no step is executed now.
     pub fn why(&self) -> Why
         ensures why { IsWhy self.now.live.session result }
         ensures answer { IsAnswer N.program N.limit N.breakpoints N.seats N.begun (Tells result) }

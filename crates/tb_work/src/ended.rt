@@ -5,7 +5,7 @@
 pub enum Ended {
     /// The worker ended well, by no refusal.
     Well,
-    /// A place's cell was taken.
+    /// A slot's cell was taken.
     CellTaken,
     /// A growth was refused.
     Memory,

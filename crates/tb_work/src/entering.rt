@@ -1,4 +1,4 @@
-//! An entry is written to its place's cell, and its seat gets a receipt.
+//! An entry is written to its slot's cell, and its seat gets a receipt.
 
 ghost use Rattle.std.specs.Prelude.{◌≡◌, ◌<◌, ◌≤◌, ◌+◌, ◌++◌, [], ◌∷◌, slice_index, Some, length, IfOk, OnOk, OnErr};
 ghost use Rattle.tb_journal.specs.Journals.{seat_of};
@@ -23,7 +23,8 @@ use tb_model::Entry;
 // for the proof: whoever lets one go has to show it for each kind of entry, here once
 fn lose(_entry: Entry) {}
 
-/// Writes an entry to its place's cell, and notes that. What can fail comes before the cell is written.
+/// Writes an entry to its slot's cell, and notes that. What can fail comes before the cell is
+/// written.
 pub fn write(
     alloc: Global,
     places: &Places,
@@ -54,7 +55,7 @@ pub fn write(
     Ok(note)
 }
 
-/// Writes a copy of an entry to its place's cell, and notes that. What can fail comes before the
+/// Writes a copy of an entry to its slot's cell, and notes that. What can fail comes before the
 /// cell is written.
 fn tell(
     alloc: Global,
@@ -75,7 +76,7 @@ fn tell(
     write(alloc, places, told, place, copy)
 }
 
-/// Makes an entry of the seat at the place, which has to be above the seat's last one.
+/// Makes an entry of the seat at the slot, which has to be above the seat's last one.
 pub fn enter<N: Team>(
     alloc: Global,
     places: &Places,

@@ -1,8 +1,8 @@
-//! A receipt without its place.
+//! A receipt without its slot.
 
 use crate::closed::Closed;
 
-/// A receipt's place isn't in the journal.
+/// A receipt's slot isn't in the journal.
 #[derive(Drop)]
 pub struct Gap {
     pub place: u32,

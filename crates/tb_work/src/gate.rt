@@ -1,4 +1,4 @@
-//! Where a worker stands between its claim and its commit.
+//! Where a worker is between its claim and its commit.
 
 /// Called by each worker after a claim and before its commit, while nobody holds the lock for it.
 pub trait Gate {

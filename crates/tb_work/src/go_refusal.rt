@@ -1,19 +1,19 @@
-//! Why a `go` isn't answered. The steps that were taken stand.
+//! Why a `go` isn't answered. The steps that were executed stay.
 
 ghost use Rattle.std.specs.Prelude.{◌≡◌};
 ghost use Rattle.tb_work.specs.Numbers.{go_number};
 
-/// What ended a worker. The steps that were taken stand, and have their receipts.
+/// What ended a worker. The steps that were executed stay, and have their receipts.
 #[derive(Clone, Copy, Debug, Drop, PartialEq, Eq)]
 pub enum GoRefusal {
-    /// 11: A place's cell was taken.
+    /// 11: A slot's cell was taken.
     CellTaken,
     /// 0: A growth was refused.
     Memory,
 }
 
 impl GoRefusal {
-    /// The number by which the refusal is known.
+    /// The code by which the refusal is known.
     pub fn number(&self) -> u8
         ensures { result ≡ go_number self.now }
     {

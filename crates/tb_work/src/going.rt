@@ -63,8 +63,8 @@ impl<N: Team> Shared<N> {
         self.desk.lock(rt).let_go(seat);
     }
 
-    /// Takes the step of a plan that was made for the task that the seat claims, and answers the place of
-    /// its entry. The claim ends.
+    /// Executes the step of a plan that was made for the task that the seat claims, and answers the
+    /// slot of its entry. The claim ends.
     pub fn commit<R: Wait>(
         &self,
         rt: &R,
@@ -86,8 +86,8 @@ impl<N: Team> Shared<N> {
         self.desk.lock(rt).commit_burst(&self.places, seat, plans)
     }
 
-    /// Takes a step back with all that need it, and tells them in the order of the history, the chosen one
-    /// first.
+    /// Takes a step back with all that need it, and returns them in the order of the history, the
+    /// chosen one first.
     pub fn roll<R: Wait>(
         &self,
         rt: &R,
@@ -229,9 +229,9 @@ impl<N: Team> Shared<N> {
         count(seats) - before
     }
 
-    /// Lets one worker a seat take up to so many steps in all. Each worker has a thread of its own; where
-    /// one can't be started, another does its work. After a refusal, too, the steps that were taken
-    /// stand.
+    /// Lets one worker a seat execute up to so many steps in all. Each worker has a thread of its
+    /// own; where one can't be started, another does its work. After a refusal, too, the steps that
+    /// were executed stay.
     pub fn go<R: Threads + Wait + Sync, G: Gate + Sync>(
         &self,
         rt: &R,

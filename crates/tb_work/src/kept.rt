@@ -1,4 +1,4 @@
-//! A receipt with what is known of its place's cell.
+//! A receipt with what is known of its slot's cell.
 
 ghost use Rattle.std.specs.Prelude.{◌≡◌, ◌≤◌, slice_index, Some};
 
@@ -8,7 +8,7 @@ use once_cell::race::Note;
 use std::marker::PhantomData;
 use tb_model::Entry;
 
-/// A receipt, and that the place's cell holds its entry.
+/// A receipt, and that the slot's cell holds its entry.
 #[derive(Drop)]
 pub struct Kept<N: Team> {
     pub receipt: Receipt,

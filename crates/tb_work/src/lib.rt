@@ -1,4 +1,4 @@
-//! A run that threads share: one lock, a write-once cell for each journal place, and receipts.
+//! A run that threads share: one lock, a write-once cell for each journal slot, and receipts.
 #![tactic(auto)]
 
 mod adopt_refusal;

@@ -1,8 +1,8 @@
-//! What a seat keeps of a change that it made.
+//! What a seat retains of a change that it made.
 
 use tb_model::Entry;
 
-/// The entry that a seat made, and its place in the journal.
+/// The entry that a seat made, and its slot in the journal.
 #[derive(Debug, Drop)]
 pub struct Receipt {
     pub place: u32,

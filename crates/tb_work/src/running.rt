@@ -1,14 +1,14 @@
-//! What each run keeps.
+//! What each run retains.
 
 ghost use Rattle.tb_work.specs.Answering.{IsRun};
 
 use tb_live::Live;
 
-/// What each run keeps, for a caller to cite.
+/// What each run retains, for a caller to cite.
 pub fn run_is_sound(live: &Live)
     ensures { IsRun live.now.session }
 {
     live.journal_is_sound();
-    // for the proof: what the run keeps of its claims
+    // for the proof: what the run retains of its claims
     let _claim = live.claim_of(0);
 }

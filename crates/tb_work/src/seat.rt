@@ -17,7 +17,7 @@ use std::sync::ledger::Share;
 #[derive(Drop)]
 pub struct Seat<N: Team> {
     pub(crate) number: u32,
-    // the place of the newest receipt, and 0 before the first
+    // the slot of the newest receipt, and 0 before the first
     pub(crate) last: u32,
     pub(crate) kept: Vec<Kept<N>>,
     pub(crate) share: Share<N>,
@@ -75,7 +75,7 @@ impl<N: Team> Seat<N> {
     pub fn len(&self) -> u32
         ensures { result ≡ length self.now.receipts }
     {
-        // for the proof: what the type keeps is known where a field is read
+        // for the proof: what the type retains is known where a field is read
         let _last = self.last;
         self.kept.as_slice().len() as u32
     }

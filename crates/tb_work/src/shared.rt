@@ -8,7 +8,7 @@ use crate::team::Team;
 use std::alloc::Global;
 use std::sync::Mutex;
 
-/// The places of a journal, and the run under its lock.
+/// The slots of a journal, and the run under its lock.
 #[derive(Drop)]
 pub struct Shared<N: Team> {
     pub(crate) alloc: Global,

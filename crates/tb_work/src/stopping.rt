@@ -1,4 +1,4 @@
-//! Why a run takes no more steps.
+//! Why a run executes no more steps.
 
 ghost use Rattle.std.specs.Prelude.{◌≡◌, ◌↔◌, IsTrue};
 ghost use Rattle.tb_work.specs.Going.{AreOver, IsWhy, paused_for};
@@ -27,7 +27,7 @@ fn are_over(live: &Live) -> bool
     live.core().next_unended(None).is_none()
 }
 
-/// Why no step is taken now: the first that holds.
+/// Why no step is executed now: the first that holds.
 pub fn why_of(live: &Live) -> Why
     ensures { IsWhy live.now.session result }
 {

@@ -10,7 +10,7 @@ use tb_live::{Live, Removed, RollRefusal, UndoRefusal};
 use tb_model::{Entry, StepId};
 use tb_plan::Plan;
 
-/// The place of the entry to come.
+/// The slot of the entry to come.
 pub fn next_place(live: &Live) -> u32
     requires { length live.now.session.journal < 2 ^ 32 }
     ensures { result ≡ length live.now.session.journal }
@@ -18,7 +18,7 @@ pub fn next_place(live: &Live) -> u32
     live.journal().len() as u32
 }
 
-/// Takes the step that is prepared, and answers its entry's place.
+/// Executes the step that is prepared, and answers its entry's slot.
 pub fn take_step(live: &mut Live, seat: u32, plan: Plan) -> u32
     requires may { MayCommit live.old.session seat plan }
     requires prepared { live.old.prepared ≡ Some (entry_to_come seat live.old.session plan) }
@@ -32,8 +32,8 @@ pub fn take_step(live: &mut Live, seat: u32, plan: Plan) -> u32
 }
 
 #[tactic(auto, using(crate::proofs::Bursting::taken_on))]
-/// Takes the step that is prepared, for a seat that goes on with the task and claims it still, and
-/// returns its entry's place.
+/// Executes the step that is prepared, for a seat that goes on with the task and claims it still,
+/// and returns its entry's slot.
 pub fn take_more(live: &mut Live, seat: u32, plan: Plan) -> u32
     requires may { MayCommit live.old.session seat plan }
     requires prepared { live.old.prepared ≡ Some (entry_to_come seat live.old.session plan) }
@@ -71,7 +71,7 @@ pub fn take_back(live: &mut Live, seat: u32, id: &StepId) -> Removed
     }
 }
 
-/// Takes all memory for an undo of the step, and tells the entry to come.
+/// Takes all memory for an undo of the step, and returns the entry to come.
 pub fn ready_undo(live: &mut Live, seat: u32, id: &StepId) -> Result<Entry, UndoRefusal>
     ensures session { live.new.session ≡ live.old.session }
     ensures may { OnOk result (MayUndo live.new.session id.now) }

@@ -1,9 +1,9 @@
-//! What is known of the cell of a place under the lock.
+//! What is known of the cell of a slot under the lock.
 
 use once_cell::race::Note;
 use tb_model::Entry;
 
-/// A place, and what is known of its cell.
+/// A slot, and what is known of its cell.
 #[derive(Drop)]
 pub struct Told {
     pub place: u32,

@@ -5,12 +5,12 @@ ghost use Rattle.tb_work.specs.declared.unmade.Unmade.TheVariants.{Memory};
 
 use std::alloc::AllocError;
 
-/// What keeps an entry from its place.
+/// Why an entry isn't written to its slot.
 #[derive(Clone, Copy, Debug, Drop, PartialEq, Eq)]
 pub enum Unmade {
     /// A growth was refused.
     Memory,
-    /// The place's cell is written already, or the place isn't above the last one of the seat.
+    /// The slot's cell is written already, or the slot isn't above the last one of the seat.
     CellTaken,
 }
 

@@ -1,11 +1,11 @@
 //! Why a `go` stopped.
 
-/// Why no worker takes a further step.
+/// Why no worker executes a further step.
 #[derive(Clone, Copy, Debug, Drop, PartialEq, Eq)]
 pub enum Why {
     /// A step met a breakpoint.
     Break,
-    /// As many steps were taken as were asked for.
+    /// As many steps were executed as were asked for.
     Limit,
     /// No task can step: all have ended.
     Done,

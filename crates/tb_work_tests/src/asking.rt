@@ -34,7 +34,7 @@ pub fn planned<N: Team, R: Wait + Abort + AllocGlobal>(
     }
 }
 
-/// The plan of the least task that no other seat claims. It stands at this line.
+/// The plan of the least task that no other seat claims. It is at this line.
 pub fn planned_at<N: Team, R: Wait + Abort + AllocGlobal>(
     rt: &R,
     shared: &Shared<N>,
@@ -65,7 +65,7 @@ pub fn burst_planned<N: Team, R: Wait + Abort + AllocGlobal>(
     }
 }
 
-/// How many plans were committed, and the number of the refusal, or 0.
+/// How many plans were committed, and the code of the refusal, or 0.
 pub fn burst_committed<N: Team, R: Wait>(
     rt: &R,
     shared: &Shared<N>,
@@ -81,7 +81,7 @@ pub fn burst_committed<N: Team, R: Wait>(
     (burst.taken, refusal)
 }
 
-/// The place of the entry, or 100 more than the number of the refusal.
+/// The slot of the entry, or 100 more than the code of the refusal.
 pub fn committed<N: Team, R: Wait>(
     rt: &R,
     shared: &Shared<N>,
@@ -95,7 +95,7 @@ pub fn committed<N: Team, R: Wait>(
     }
 }
 
-/// How many steps go, or 100 more than the number of the refusal.
+/// How many steps go, or 100 more than the code of the refusal.
 pub fn rolled<N: Team, R: Wait + Abort + AllocGlobal>(
     rt: &R,
     shared: &Shared<N>,
@@ -109,7 +109,7 @@ pub fn rolled<N: Team, R: Wait + Abort + AllocGlobal>(
     }
 }
 
-/// 1 where the step goes, or 100 more than the number of the refusal.
+/// 1 where the step goes, or 100 more than the code of the refusal.
 pub fn undone<N: Team, R: Wait + Abort + AllocGlobal>(
     rt: &R,
     shared: &Shared<N>,

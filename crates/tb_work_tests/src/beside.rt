@@ -1,4 +1,4 @@
-//! Rollbacks, pauses and other workers beside running workers.
+//! Rollbacks, pauses and other workers next to running workers.
 
 ghost use Rattle.std.specs.Prelude.{◌<◌, ◌≤◌, length};
 
@@ -28,7 +28,7 @@ fn roll_often<N: Team, R: Wait + Abort + AllocGlobal>(
     }
 }
 
-/// One seat rolls back beside the workers of the others.
+/// One seat rolls back next to the workers of the others.
 pub fn roll_beside_workers<N: Team + Send + Sync, R: Threads + Wait + Abort + AllocGlobal + Sync>(
     rt: &R,
     shared: &Shared<N>,
@@ -110,7 +110,7 @@ fn pause_beside(rt: HostRuntime) {
     play(&rt, live, Scenario::PauseBeside, &left);
 }
 
-/// Workers of some seats beside those of others.
+/// Workers of some seats next to those of others.
 pub fn go_beside_workers<N: Team + Send + Sync, R: Threads + Wait + Abort + AllocGlobal + Sync>(
     rt: &R,
     shared: &Shared<N>,

@@ -59,7 +59,8 @@ pub fn go_by_bursts<N: Team + Send + Sync, R: Threads + Wait + Abort + AllocGlob
     assert_eq!(rt; gate.calls(), 7);
 }
 
-/// A rollback withdraws a burst, behind a step that goes and of a task that goes. Without plans a burst ends the claim.
+/// A rollback withdraws a burst, after a step that goes and of a task that goes. Without plans a
+/// burst ends the claim.
 pub fn withdraw_a_burst<N: Team + Send + Sync, R: Threads + Wait + Abort + AllocGlobal + Sync>(
     rt: &R,
     shared: &Shared<N>,

@@ -1,4 +1,4 @@
-//! Where workers stand between a claim and its commit.
+//! Where workers are between a claim and its commit.
 
 use std::sync::atomic::AtomicU64;
 use std::sync::atomic::Ordering::SeqCst;
@@ -8,7 +8,7 @@ use tb_work::Gate;
 /// How often a thread looks for another before it gives up. It yields each time.
 pub const TURNS: u32 = 10_000_000;
 
-/// How many calls of each of two seats are kept.
+/// How many calls of each of two seats are held back.
 const KEPT: u64 = 5;
 
 /// Blocks nobody.

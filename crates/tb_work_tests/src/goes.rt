@@ -1,4 +1,4 @@
-//! Workers that nobody disturbs: how many steps they take, and why no more.
+//! Workers that nobody disturbs: how many steps they execute, and why no more.
 
 ghost use Rattle.std.specs.Prelude.{◌<◌, ◌≤◌, length};
 
@@ -139,7 +139,7 @@ fn a_breakpoint_stops_all_workers(rt: HostRuntime) {
     }
 }
 
-/// A journal without a place takes no rollback.
+/// A journal without a slot takes no rollback.
 pub fn fill<N: Team + Send + Sync, R: Threads + Wait + Abort + AllocGlobal + Sync>(
     rt: &R,
     shared: &Shared<N>,
@@ -169,7 +169,7 @@ pub fn roll_and_go<N: Team + Send + Sync, R: Threads + Wait + Abort + AllocGloba
     assert!(rt; go(rt, shared, seats, 1000) == (gone as u64, Why::Done));
 }
 
-/// A hundred runs by eight workers: no place's cell is taken, and each receipt is in the journal.
+/// A hundred runs by eight workers: no slot's cell is taken, and each receipt is in the journal.
 #[test]
 fn a_hundred_runs_by_eight(rt: HostRuntime) {
     for _round in 0..100u32 {

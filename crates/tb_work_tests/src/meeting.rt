@@ -1,4 +1,4 @@
-//! Two workers stand between a claim and its commit at once.
+//! Two workers are between a claim and its commit at once.
 
 ghost use Rattle.std.specs.Prelude.{◌<◌, ◌≤◌, length};
 
@@ -29,8 +29,8 @@ pub fn meet<N: Team + Send + Sync, R: Threads + Wait + Abort + AllocGlobal + Syn
     assert!(rt; meeting.calls() == (5, 5));
 }
 
-/// All work on one thread, one worker that goes on alone, or the lock held from a claim to its commit
-/// would keep the other from the gate.
+/// All work on one thread, one worker that goes on alone, or the lock held from a claim to its
+/// commit would hold the other back from the gate.
 #[test]
 fn both_at_the_gate(rt: HostRuntime) {
     let live = opened(rt.alloc(), SPAWNED, 20, 2).expect(&rt, "an accepted program");

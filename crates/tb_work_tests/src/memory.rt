@@ -14,8 +14,8 @@ use tb_live::RollRefusal;
 use tb_model::StepId;
 use tb_work::{GoRefusal, Refused, Seat, Shared, Team, Why};
 
-/// How many steps the workers take before all have ended. A worker that finds no memory ends, and the
-/// steps that were taken stand.
+/// How many steps the workers take before all have ended. A worker that finds no memory ends, and
+/// the steps that were executed stay.
 fn go_on<N: Team + Send + Sync, R: Threads + Wait + Abort + Sync>(
     rt: &R,
     shared: &Shared<N>,

@@ -59,7 +59,7 @@ fn are_alike(left: &Entry, right: &Entry) -> bool {
     }
 }
 
-/// The receipts are the journal behind its opening, place by place.
+/// The receipts are the journal after its opening, slot by slot.
 fn compare(rt: &impl Abort, receipts: &[Receipt], journal: &Journal) {
     assert_eq!(rt; receipts.len(), journal.len().saturating_sub(1));
     let mut last = 0;

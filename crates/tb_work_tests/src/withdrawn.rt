@@ -15,7 +15,7 @@ pub const SPAWNED: &[u8] = b"cells 2\nbody main 0\n  task u 0\n  task u 1\nend\n
 /// The root's steps.
 pub const ROOT: [&str; 4] = ["0", "0", "0", "0"];
 
-/// One seat takes a step back behind which another claims.
+/// One seat takes a step back after which another claims.
 pub fn remove_a_claimed_step<N: Team + Send + Sync, R: Threads + Wait + Abort + AllocGlobal + Sync>(
     rt: &R,
     shared: &Shared<N>,

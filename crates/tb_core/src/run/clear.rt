@@ -1,4 +1,4 @@
-//! Steps of tasks from which nothing keeps them.
+//! Steps of tasks that nothing blocks.
 
 ghost use Rattle.std.specs.Prelude.{◌≡◌, IfOk, OnErr, OnOk};
 ghost use Rattle.tb_model.specs.Legal.{MayFollow};
@@ -12,8 +12,8 @@ use std::alloc::AllocError;
 use tb_model::{Action, Event, TaskName};
 
 impl Core {
-    /// Takes an action of a task from which nothing keeps it: nothing is asked again. The action
-    /// leaves the task at the line `to`. The event is the newest then.
+    /// Executes an action of a task that nothing blocks: nothing is asked again. The action leaves
+    /// the task at the line `to`. The event is the newest then.
     #[inline(always)]
     pub fn step_clear(&mut self, task: &TaskName, action: Action, to: u32) -> Result<(), AllocError>
         requires { MayTake self.old.run task.now action }
@@ -29,8 +29,8 @@ impl Core {
         }
     }
 
-    /// Takes an action of which nothing is filled in, of a task from which nothing keeps it: the
-    /// action is the event's as it is.
+    /// Executes an action of which nothing is filled in, of a task that nothing blocks: the action
+    /// is the event's as it is.
     #[inline(always)]
     fn step_whole(&mut self, task: TaskName, action: Action, to: u32) -> Result<(), AllocError>
         requires whole { IsWhole action }
@@ -39,13 +39,13 @@ impl Core {
             (event_for self.old.run task action)) }
         ensures err { OnErr result (self.new ≡ self.old) }
     {
-        // for the proof: what the tables keep
+        // for the proof: what the tables retain
         let _ = &self.tables;
         self.append(Event { task, action }, to)?;
         Ok(())
     }
 
-    /// Takes an action of a task from which nothing keeps it, and fills in what the tables say: the
+    /// Executes an action of a task that nothing blocks, and fills in what the tables say: the
     /// value of a load, or the name of a child.
     // out of line: a step of which nothing is filled in doesn't pay for its stack frame
     #[inline(never)]
@@ -60,7 +60,7 @@ impl Core {
         Ok(())
     }
 
-    /// Takes an action of a task from which nothing keeps it, and returns a copy of its event. The
+    /// Executes an action of a task that nothing blocks, and returns a copy of its event. The
     /// memory for the copy is taken before the step.
     pub fn step_copied(
         &mut self,
@@ -78,7 +78,7 @@ impl Core {
         Ok(copy)
     }
 
-    /// The event of an action from which nothing keeps the task.
+    /// The event of an action that nothing blocks.
     #[inline(always)]
     fn event_of_clear(&self, task: &TaskName, action: Action) -> Result<Event, AllocError>
         requires { MayTake self.now.run task.now action }

@@ -1,4 +1,4 @@
-//! The room for a planned step, and the step by what is reserved or without it.
+//! The capacity for a planned step, and the step by what is reserved or without it.
 
 ghost use Rattle.std.specs.Prelude.{◌≡◌, ◌<◌, IfOk, IsFalse, IsOk, IsTrue, OnErr, OnOk, length, None, Some};
 ghost use Rattle.tb_model.specs.Legal.{MayFollow};
@@ -15,7 +15,7 @@ use tb_model::{Event, StepId};
 use tb_plan::Plan;
 
 impl Core {
-    /// The event of the plan, twice, for which all room is made.
+    /// The event of the plan, twice, for which all capacity is reserved.
     pub(crate) fn prepare(&mut self, plan: &Plan) -> Result<(Event, Event), AllocError>
         requires fits { Fits self.old.run plan.now }
         requires ready { IsOpen self.old.run plan.now }
@@ -30,8 +30,8 @@ impl Core {
         Ok((event, copy))
     }
 
-    /// Makes all room for an event that may follow the others. What was reserved is given up last, so not where memory is
-    /// wanted.
+    /// Reserves all capacity for an event that may follow the others. What was reserved is given up
+    /// last, so not where memory is wanted.
     fn reserve_event(&mut self, event: &Event) -> Result<(), AllocError>
         requires may { MayFollow self.old.run.cells (history self.old.run) event.now }
         requires room { length self.old.run.steps < self.old.run.limit }
@@ -48,8 +48,8 @@ impl Core {
         Ok(())
     }
 
-    /// Takes the step right after a `reserve_step` of the plan that answered Ok: nothing is asked again, and it takes no
-    /// memory.
+    /// Executes the step right after a `reserve_step` of the plan that answered Ok: nothing is
+    /// asked again, and it takes no memory.
     pub fn step_reserved(&mut self, plan: Plan) -> StepId
         requires fits { Fits self.old.run plan }
         requires open { IsOpen self.old.run plan }
@@ -89,7 +89,7 @@ impl Core {
         }
     }
 
-    /// Takes the step of a plan that isn't refused, whatever is reserved.
+    /// Executes the step of a plan that isn't refused, whatever is reserved.
     pub(crate) fn take(&mut self, plan: Plan) -> Result<StepId, AllocError>
         requires fits { Fits self.old.run plan }
         requires ready { IsOpen self.old.run plan }

@@ -1,4 +1,4 @@
-//! What a core tells of its tasks, of the cells, of the output and of the places of steps.
+//! What a core says of its tasks, of the cells, of the output and of the indexes of steps.
 
 ghost use Rattle.std.specs.Prelude.{◌≡◌, IfOk, Some, None, length, reverse, if◌then◌else◌};
 ghost use Rattle.std.specs.Option.{option_copied};
@@ -19,21 +19,21 @@ use std::alloc::AllocError;
 use tb_model::{Item, TaskName};
 
 impl Core {
-    /// The cells' numbers, in order.
+    /// The cells' values, in order.
     pub fn cells(&self) -> &[i64]
         ensures { AreLast self.now.run.cells (history self.now.run) result.now }
     {
         self.tables.cells()
     }
 
-    /// The printed numbers, in order.
+    /// The printed values, in order.
     pub fn output(&self) -> &[i64]
         ensures { result.now ≡ reverse (printed (history self.now.run)) }
     {
         self.tables.output()
     }
 
-    /// The least unended task behind this one by the order of names, or of all.
+    /// The least unended task after this one by the order of names, or of all.
     pub fn next_unended(&self, after: Option<&TaskName>) -> Option<&TaskName>
         ensures { IsLeastName (IsUnendedBehind (history self.now.run) (option_copied after.entry)) (option_copied result) }
     {
@@ -74,7 +74,7 @@ impl Core {
         self.tables.children(task)
     }
 
-    /// Where a task stands that is there, as a refusal says it.
+    /// The situation of a task that is there, as a refusal says it.
     pub fn elsewhere(&self, task: &TaskName) -> Result<Option<Elsewhere>, AllocError>
         ensures { IfOk result (λ o. o ≡ (if is_spawned (history self.now.run) task.now then Some (config_of self.now.run task.now) else None)) }
     {
@@ -91,35 +91,35 @@ impl Core {
         self.tables.items(task)
     }
 
-    /// Whether the task depends on its sibling with this number.
+    /// Whether the task depends on its sibling with this ordinal.
     pub fn is_before(&self, number: u32, task: &TaskName) -> bool
         ensures { result ≡ before (history self.now.run) (sibling task.now number) task.now }
     {
         self.tables.is_before(number, task)
     }
 
-    /// Whether the task and its sibling with this number exclude each other.
+    /// Whether the task and its sibling with this ordinal exclude each other.
     pub fn is_apart(&self, number: u32, task: &TaskName) -> bool
         ensures { result ≡ apart (history self.now.run) (sibling task.now number) task.now }
     {
         self.tables.is_apart(number, task)
     }
 
-    /// The places of the task's steps, from 0 and rising.
+    /// The indexes of the task's steps, from 0 and rising.
     pub fn events_of(&self, task: &TaskName) -> &[u32]
         ensures { result.now ≡ places_where (is_of task.now) (reverse (history self.now.run)) }
     {
         self.places.events_of(self.tables.place(task))
     }
 
-    /// The places of the steps that load from the cell or store to it, rising.
+    /// The indexes of the steps that load from the cell or store to it, rising.
     pub fn touches(&self, cell: u32) -> &[u32]
         ensures { result.now ≡ places_where (λ v. touches cell v.action) (reverse (history self.now.run)) }
     {
         self.places.touches(cell)
     }
 
-    /// The places of the steps that print, rising.
+    /// The indexes of the steps that print, rising.
     pub fn prints(&self) -> &[u32]
         ensures { result.now ≡ places_where (λ v. is_print v.action) (reverse (history self.now.run)) }
     {

@@ -1,5 +1,5 @@
-//! What a task's state is beside its situation: whether it faulted, which of its groups are open, and
-//! who of its children and of their members isn't done.
+//! What a task's state has besides its situation: whether it faulted, which of its groups are open,
+//! and who of its children and of their members isn't done.
 
 ghost use Rattle.std.specs.Prelude.{◌≡◌, ◌↔◌, IfOk, IsTrue};
 ghost use Rattle.tb_model.specs.Facts.{own};

@@ -17,7 +17,7 @@ use crate::unwinding::{take_back, unwind};
 use tb_model::StepId;
 
 impl Core {
-    /// Takes the entry at this place out, of a step that nothing needs.
+    /// Takes the stored step at this index out, of a step that nothing needs.
     fn take_out(&mut self, at: usize, id: StepId) -> Removed
         requires free { IsFree self.old.run id }
         requires here { IsPlaceOfStep self.old.run id at }
@@ -34,7 +34,7 @@ impl Core {
         take_back(&mut self.tables, entry, id)
     }
 
-    /// The place of a step that nothing needs.
+    /// The index of a step that nothing needs.
     fn free_place(&self, id: &StepId) -> Result<usize, UndoRefusal>
         ensures place { IfOk result (IsPlaceOfStep self.now.run id.now) }
         ensures free { OnOk result (IsFree self.now.run id.now) }
@@ -63,8 +63,8 @@ impl Core {
         self.free_place(id).err()
     }
 
-    /// Takes a step back that nothing needs, wherever it stands. It takes no memory where that is
-    /// done. Where it stands is known. The name that is handed in is returned in the answer.
+    /// Takes a step back that nothing needs, wherever it is. It takes no memory where that is done.
+    /// Its index is known. The name that is handed in is returned in the answer.
     pub fn undo(&mut self, id: StepId) -> Result<Removed, UndoRefusal>
         ensures undone { Undone self.old.run id self.new.run result }
         ensures err { OnErr result (self.new ≡ self.old) }
@@ -77,7 +77,7 @@ impl Core {
     }
 
     /// Takes a step back with all that need it, each by its own record, from the newest on. It
-    /// takes no memory, and what stands behind the first of them is moved once.
+    /// takes no memory, and what is after the first of them is moved once.
     pub fn take_out_all(&mut self, rollback: Rollback) -> Vec<Removed>
         requires { IsOfHistory (history self.old.run) rollback }
         ensures { RollsBack self.old.run rollback.step self.new.run result.items }

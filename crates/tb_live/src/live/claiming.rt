@@ -20,7 +20,7 @@ impl Live {
     }
 
     /// Gives the seat a claim on the task in place of its former one, whatever the mode and the
-    /// journal. It keeps what is prepared, as a refusal does.
+    /// journal. It retains what is prepared, as a refusal does.
     pub fn claim_task(&mut self, seat: u32, task: &TaskName) -> Result<Work, ClaimRefusal>
         requires { seat < length self.old.session.control.claims }
         ensures claimed { ClaimsTask self.old.session seat task.now self.new.session result }
@@ -39,10 +39,10 @@ impl Live {
         }
     }
 
-    /// Gives up the seat's former claim, and gives it one on the least task that can step and that no
-    /// other seat claims. It answers Done exactly where all tasks have ended or faulted, but for a run that
-    /// is paused, or whose journal is full: that one is stopped, and takes no memory to say so. What is
-    /// prepared is kept.
+    /// Gives up the seat's former claim, and gives it one on the least task that can step and that
+    /// no other seat claims. It answers Done exactly where all tasks have ended or faulted, but for
+    /// a run that is paused, or whose journal is full: that one is stopped, and takes no memory to
+    /// say so. What is prepared is retained.
     pub fn claim(&mut self, seat: u32) -> Result<Claim, AllocError>
         requires { seat < length self.old.session.control.claims }
         ensures ok { IfOk result (ClaimsWork self.old.session seat self.new.session) }
@@ -60,8 +60,8 @@ impl Live {
         }
     }
 
-    /// Claims as `claim` does, and leaves the private statements around the task's next one out. So it costs a seat that
-    /// takes one step less.
+    /// Claims as `claim` does, and leaves the private statements around the task's next one out. So
+    /// it costs a seat that executes one step less.
     pub fn offer(&mut self, seat: u32) -> Result<Offer, AllocError>
         requires { seat < length self.old.session.control.claims }
         ensures ok { IfOk result (IsOffered self.old.session seat self.new.session) }

@@ -17,9 +17,9 @@ use tb_plan::Plan;
 use tb_roll::RollRefusal;
 
 impl Live {
-    /// Takes all memory for a commit of the plan by the seat, and tells the entry to come, whose place
-    /// is the journal's length. The `commit` of that plan right after it is done, and takes none. A
-    /// refusal, for want of memory too, keeps what an earlier call prepared.
+    /// Takes all memory for a commit of the plan by the seat, and returns the entry to come, whose
+    /// slot is the journal's length. The `commit` of that plan right after it is done, and takes
+    /// none. A refusal, for want of memory too, retains what an earlier call prepared.
     pub fn prepare(&mut self, seat: u32, plan: &Plan) -> Result<Entry, CommitRefusal>
         ensures session { self.new.session ≡ self.old.session }
         ensures prepared { IfOk result (IsPrepared seat self.new plan.now) }
@@ -45,9 +45,9 @@ impl Live {
         }
     }
 
-    /// Takes the step of a plan that was made for the task that the seat claims, and answers the place
-    /// of its entry. The claim ends. A plan that isn't for the task's situation by this program is
-    /// stale. A refusal, for want of memory too, keeps what is prepared.
+    /// Executes the step of a plan that was made for the task that the seat claims, and answers the
+    /// slot of its entry. The claim ends. A plan that isn't for the task's situation by this
+    /// program is stale. A refusal, for want of memory too, retains what is prepared.
     pub fn commit(&mut self, seat: u32, plan: Plan) -> Result<u32, CommitRefusal>
         ensures committed { Commits seat self.old.session plan self.new.session result }
         ensures kept { OnErr result (self.new ≡ self.old) }
@@ -74,7 +74,8 @@ impl Live {
         }
     }
 
-    /// Takes the step of a plan as `commit` does, and keeps the claim: the seat goes on with the task.
+    /// Executes the step of a plan as `commit` does, and retains the claim: the seat goes on with
+    /// the task.
     pub fn commit_more(&mut self, seat: u32, plan: Plan) -> Result<u32, CommitRefusal>
         ensures committed { CommitsMore seat self.old.session plan self.new.session result }
         ensures kept { OnErr result (self.new ≡ self.old) }
@@ -101,9 +102,9 @@ impl Live {
         }
     }
 
-    /// Takes all memory for a rollback of the step by the seat, and tells the entry to come. The `roll`
-    /// right behind it is done, and takes none; so is the `undo`, where nothing needs the step. A refusal
-    /// keeps what an earlier call prepared.
+    /// Takes all memory for a rollback of the step by the seat, and returns the entry to come. The
+    /// `roll` right after it is done, and takes none; so is the `undo`, where nothing needs the
+    /// step. A refusal retains what an earlier call prepared.
     pub fn prepare_roll(&mut self, seat: u32, id: &StepId) -> Result<Entry, RollRefusal>
         ensures session { self.new.session ≡ self.old.session }
         ensures prepared { IfOk result (IsRollPrepared seat self.new id.now) }

@@ -37,7 +37,7 @@ impl Live {
         ensures within { length self.now.session.journal ≤ self.now.session.limit }
         ensures bound { self.now.session.limit ≤ 1000000 }
     {
-        // for the proof: what the type keeps is known where a field is read
+        // for the proof: what the type retains is known where a field is read
         let _limit = self.limit;
     }
 

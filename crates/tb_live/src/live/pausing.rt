@@ -11,7 +11,7 @@ use tb_control::{Break, BreakRefusal, Breakpoint, Mode};
 use tb_read::Program;
 
 impl Live {
-    /// Whether steps are taken, and what paused the run where they aren't.
+    /// Whether steps are executed, and what paused the run where they aren't.
     pub fn mode(&self) -> Mode
         ensures { result ≡ self.now.session.control.mode }
     {
@@ -39,7 +39,7 @@ impl Live {
         self.control.mode = Mode::counting(steps);
     }
 
-    /// The breakpoints that stand, in the order in which they were made.
+    /// The breakpoints that are there, in the order in which they were made.
     pub fn breakpoints(&self) -> &[Breakpoint]
         ensures standing { result.now ≡ self.now.session.control.breakpoints.standing }
         ensures numbered { AreNumbered self.now.session.control.breakpoints }
@@ -48,7 +48,7 @@ impl Live {
     }
 
     /// Makes a breakpoint, and answers its number. A body is named by its line. What is prepared is
-    /// kept.
+    /// retained.
     pub fn add_break(&mut self, at: Break) -> Result<u32, BreakRefusal>
         ensures added { AddsBreak self.old.session at self.new.session result }
         ensures kept { OnErr result (self.new ≡ self.old) }
@@ -60,7 +60,7 @@ impl Live {
         self.control.breakpoints.add(at)
     }
 
-    /// Takes a breakpoint away. Takes no memory, and keeps what is prepared.
+    /// Takes a breakpoint away. Takes no memory, and retains what is prepared.
     pub fn clear_break(&mut self, number: u32) -> Result<(), BreakRefusal>
         ensures cleared { ClearsBreak self.old.session number self.new.session result }
         ensures kept { OnErr result (self.new ≡ self.old) }

@@ -13,9 +13,9 @@ use std::alloc::AllocError;
 use tb_model::TaskName;
 
 impl Live {
-    /// Makes the moves for seat 0, in order. All claims are withdrawn, and the run is resumed in front
-    /// of each move. Room for the answers is taken first, and where it is refused nothing changes, what
-    /// is prepared included; what is refused later is an answer.
+    /// Makes the moves for seat 0, in order. All claims are withdrawn, and the run is resumed in
+    /// front of each move. Capacity for the answers is taken first, and where it is refused nothing
+    /// changes, what is prepared included; what is refused later is an answer.
     pub fn run(&mut self, moves: &[Move]) -> Result<Vec<Answer>, AllocError>
         ensures ok { IfOk result (λ answers. Runs moves.now (unclaimed self.old.session) answers.items self.new.session) }
         ensures err { OnErr result (self.new ≡ self.old) }
@@ -47,7 +47,7 @@ impl Live {
         self.limit = limit;
     }
 
-    /// Makes a move, behind a resume.
+    /// Makes a move, after a resume.
     fn answer(&mut self, one: &Move) -> Answer
         ensures { Answers self.old.session one.now self.new.session result }
     {
@@ -65,7 +65,7 @@ impl Live {
         }
     }
 
-    /// Takes the task's next step, and answers the place of its entry.
+    /// Executes the task's next step, and answers the slot of its entry.
     fn step_for_move(&mut self, task: &TaskName) -> Result<u32, CommitRefusal>
         ensures { StepsAt self.old.session task.now self.new.session result }
     {

@@ -1,4 +1,4 @@
-//! What a task's state is beside its situation.
+//! What a task's state has besides its situation.
 
 ghost use Rattle.std.specs.Prelude.{◌≡◌, ◌↔◌, IfOk, IsTrue, Some, None, if◌then◌else◌};
 ghost use Rattle.tb_model.specs.Facts.{is_spawned, own};

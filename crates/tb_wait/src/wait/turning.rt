@@ -12,9 +12,9 @@ use crate::near::{Near, stands_at};
 use tb_model::TaskName;
 
 impl Wait {
-    /// Turns to the task, which is asked of next, and is looked for at this place first, which may be any: it,
-    /// its parent and the one that was generated after it are looked for at their own places from now on.
-    /// Nothing that the table tells changes. Returns the task's place.
+    /// Turns to the task, which is asked of next, and is looked for at this index first, which may
+    /// be any: it, its parent and the one that was generated after it are looked for at their own
+    /// indexes from now on. Nothing that the table says changes. Returns the task's index.
     #[inline(always)]
     pub fn turn_to(&mut self, near: usize, task: &TaskName) -> Option<usize>
         ensures same { self.new ≡ self.old }
@@ -26,7 +26,7 @@ impl Wait {
         self.turn_elsewhere(near, task)
     }
 
-    /// Turns to the task where the table was turned to another, and returns the task's place.
+    /// Turns to the task where the table was turned to another, and returns the task's index.
     // out of line: most calls don't pay for its stack frame
     #[inline(never)]
     fn turn_elsewhere(&mut self, near: usize, task: &TaskName) -> Option<usize>
@@ -39,8 +39,8 @@ impl Wait {
         Some(own)
     }
 
-    /// The task's place among all that were ever generated, which it keeps for good. It is looked for at this place first, which
-    /// may be any.
+    /// The task's index among all that were ever generated, which it retains for good. It is looked
+    /// for at this index first, which may be any.
     #[inline(always)]
     pub fn place(&self, near: usize, task: &TaskName) -> Option<usize>
         ensures { result ≡ place self.now.tasks task.now }
@@ -48,7 +48,7 @@ impl Wait {
         self.near.find_near(&self.names, &self.tree, near, task)
     }
 
-    /// The task's place, in a walk over tasks: `near` hands on the place of the last one, which
+    /// The task's index, in a walk over tasks: `near` hands on the index of the last one, which
     /// mostly is this one again.
     #[inline(always)]
     pub fn walk_place(&self, near: &mut usize, task: &TaskName) -> Option<usize>
@@ -60,7 +60,7 @@ impl Wait {
         self.walk_elsewhere(near, task)
     }
 
-    /// The place of a task that isn't the last one of the walk: mostly it stands beside that, or is
+    /// The index of a task that isn't the last one of the walk: mostly it is next to that, or is
     /// its parent, its child or its sibling.
     // out of line: most calls don't pay for its stack frame
     #[inline(never)]
@@ -78,7 +78,7 @@ impl Wait {
         found
     }
 
-    /// The name at this place, whether its task stands or not. A place fits in 32 bits.
+    /// The name at this index, whether its task is there or not. An index fits in 32 bits.
     #[inline(always)]
     pub fn name(&self, at: usize) -> Option<&TaskName>
         ensures name { option_copied result ≡ slice_get (keys_of self.now.tasks) at }

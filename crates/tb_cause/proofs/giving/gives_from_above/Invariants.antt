@@ -5,7 +5,7 @@ use Rattle.tb_cause.specs.Asked.{some_above}
 use Rattle.tb_cause.proofs.HasLemmas.{passes_above, depth}
 use Rattle.tb_cause.proofs.giving.gives_from_above.Given as goal
 
--- what is left tells as all does
+-- what is left says as all does
 abbrev pub invariant-up : goal.invariant-up
 invariant-up l = passes_above (contains same_name l.set) l.next ≡ some_above (contains same_name l.set) l.task
 

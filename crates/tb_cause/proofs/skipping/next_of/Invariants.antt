@@ -5,7 +5,7 @@ use Rattle.tb_model.specs.Facts.{is_of}
 use Rattle.tb_core.specs.Lending.{IsNoneBetween}
 use Rattle.tb_cause.proofs.skipping.next_of.Given as goal
 
--- those that were asked
+-- the tasks that were asked
 abbrev pub invariant-loop-n : goal.invariant-loop-n
 invariant-loop-n l = record {
   low : l.from ≤ l.next;

@@ -4,7 +4,7 @@ use Rattle.tb_model.specs.Facts.{touches}
 use Rattle.tb_core.specs.Lending.{IsNoneBetween}
 use Rattle.tb_cause.proofs.skipping.next_touch.Given as goal
 
--- those that were asked
+-- the cells that were asked
 abbrev pub invariant-loop-n : goal.invariant-loop-n
 invariant-loop-n l = record {
   low : l.from ≤ l.next;

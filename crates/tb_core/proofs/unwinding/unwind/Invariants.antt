@@ -4,7 +4,7 @@ use Rattle.tb_core.specs.Storing.{entries_in}
 use Rattle.tb_core.specs.UnwindingStored.{UnwindsAt}
 use Rattle.tb_core.proofs.unwinding.unwind.Given as goal
 
--- the tables are those of the entries without the ones that went
+-- the tables are those of the stored steps without the ones that went
 abbrev pub invariant-back : goal.invariant-back
 invariant-back l =
     let places = l.fn.rollback.places.items in

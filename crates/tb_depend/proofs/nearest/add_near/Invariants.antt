@@ -5,7 +5,7 @@ use Rattle.tb_model.specs.Items.{is_before, meets}
 use Rattle.tb_depend.proofs.NearestLemmas.{AddsFrom}
 use Rattle.tb_depend.proofs.nearest.add_near.Given as goal
 
--- of the items from this place on
+-- of the items from this index on
 abbrev pub invariant-loop-at : goal.invariant-loop-at
 invariant-loop-at l = record {
   within : l.at ≤ l.last;

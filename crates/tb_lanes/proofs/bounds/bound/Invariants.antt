@@ -3,7 +3,7 @@ use Rattle.tb_lanes.specs.declared.lane_bound.LaneBound.{LaneBound}
 use Rattle.tb_lanes.specs.Bounds.{IsRising}
 use Rattle.tb_lanes.proofs.bounds.bound.Given as goal
 
--- those on the left are of lanes in front, those on the right of lanes behind
+-- those on the left are of lanes in front, those on the right of lanes after
 abbrev pub invariant-halve : goal.invariant-halve
 invariant-halve l = record {
   within : l.high ≤ length l.row;

@@ -3,7 +3,7 @@ use Rattle.tb_lanes.specs.declared.lane_bound.LaneBound.{LaneBound}
 use Rattle.tb_lanes.specs.Bounds.{IsRising, IsUnder, bound_in}
 use Rattle.tb_lanes.proofs.bounds.merged.Given as goal
 
--- what was merged tells as much as the parts so far, and the lanes that follow are behind it
+-- what was merged says as much as the parts so far, and the lanes that follow are after it
 abbrev pub invariant-merge : goal.invariant-merge
 invariant-merge l = record {
   left_in : l.i ≤ length l.left;

@@ -2,7 +2,7 @@ use Rattle.std.proofs.Common.{◌≡◌, length}
 use Rattle.tb_model.specs.Names.{same_name}
 use Rattle.tb_model.proofs.in_common.are_same.Given as goal
 
--- what is left of both tells whether they are the same
+-- what is left of both says whether they are the same
 abbrev pub invariant-blocks-2 : goal.invariant-blocks-2
 invariant-blocks-2 l = record {
   long : length l.left ≡ length l.right;

@@ -2,7 +2,7 @@ use Rattle.std.proofs.Common.{◌≡◌, ◌≤◌, length, take}
 use Rattle.tb_model.specs.Names.{name_cmp}
 use Rattle.tb_model.proofs.in_common.without_common.Given as goal
 
--- what is left of both stands in the order of the whole
+-- what is left of both is in the order of the whole
 abbrev pub invariant-common : goal.invariant-common
 invariant-common l = record {
   of_first : l.m ≤ length l.a;

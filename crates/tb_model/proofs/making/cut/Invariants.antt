@@ -2,7 +2,7 @@ use Rattle.std.proofs.Common.{◌≡◌, ◌++◌, ◌<◌, ◌⊎◌, length}
 use Rattle.tb_model.specs.Blocks.{far_numbers, AreFull}
 use Rattle.tb_model.proofs.making.cut.Given as goal
 
--- what is left, and the blocks so far, are the numbers
+-- what is left, and the blocks so far, are the ordinals
 abbrev pub invariant-blocks-2 : goal.invariant-blocks-2
 invariant-blocks-2 l = record {
   is : l.near ++ far_numbers l.far.items ≡ l.numbers;

@@ -2,7 +2,7 @@ use Rattle.std.proofs.Common.{length, ◌<◌}
 use Rattle.tb_model.proofs.BlockOrderLemmas.{AreOrdered}
 use Rattle.tb_model.proofs.name_order.by_parts.Given as goal
 
--- what is left of both tells their order
+-- what is left of both says their order
 abbrev pub invariant-blocks-2 : goal.invariant-blocks-2
 invariant-blocks-2 l = record {
   order : AreOrdered l.a l.b l.a-inside.near l.b-inside.near l.left l.right;

@@ -9,7 +9,7 @@ use Rattle.tb_next.proofs.ComingLemmas.{is_coming}
 use Rattle.tb_next.proofs.PlanLemmas.{stands_at, stands_somewhere}
 use Rattle.tb_next.proofs.planning.coming_at.Goals as goal
 
--- a task that isn't over stands at a statement
+-- a task that isn't over is at a statement
 pub unreachable-requires : goal.unreachable-requires
 unreachable-requires c =
     let P = c.args.program.now in

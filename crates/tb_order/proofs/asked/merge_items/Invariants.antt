@@ -5,7 +5,7 @@ use Rattle.tb_lanes.specs.Linking.{order_of}
 use Rattle.tb_lanes.specs.Rows.{IsAsked, IsTold, JoinsMore, items_at, may_meet}
 use Rattle.tb_order.proofs.asked.merge_items.Given as goal
 
--- those that the items so far may meet are told of
+-- those that the items so far may meet are listed
 abbrev pub invariant-loop-item : goal.invariant-loop-item
 invariant-loop-item l = record {
   more : JoinsMore l.entries l.tasks l.past l.waiter.lane l.waiter.at l.initial.joined l.joined;

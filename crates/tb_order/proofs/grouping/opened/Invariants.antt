@@ -7,7 +7,7 @@ use Rattle.tb_model.specs.Names.{Name}
 use Rattle.tb_lanes.specs.Clocks.{number}
 use Rattle.tb_order.proofs.grouping.opened.Given as goal
 
--- of who was generated so far, the actions so far tell who is a member
+-- of who was generated so far, the actions so far say who is a member
 abbrev pub invariant-back : goal.invariant-back
 invariant-back l = record {
   fits : l.closed + l.place ≤ l.at;

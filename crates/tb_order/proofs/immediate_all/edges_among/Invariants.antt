@@ -4,7 +4,7 @@ use Rattle.tb_order.specs.AllNeeds.{AreNeeds}
 use Rattle.tb_order.specs.Edges
 use Rattle.tb_order.proofs.immediate_all.edges_among.Given as goal
 
--- those of the entries so far
+-- those of the stored steps so far
 abbrev pub invariant-loop-at : goal.invariant-loop-at
 invariant-loop-at l = record {
   needs : AreNeeds l.entries l.tasks l.at l.needs;

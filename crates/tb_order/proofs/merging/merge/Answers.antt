@@ -100,7 +100,7 @@ back-preserved c =
           (cases_eq j i);
     }
 
--- those further back stand in front of where the walk begins
+-- those further back are before where the walk begins
 pub returns-then-end-waiter-clause-told : goal.returns-then-end-waiter-clause-told
 returns-then-end-waiter-clause-told c j m q =
     let ends = c.args.ends.now in

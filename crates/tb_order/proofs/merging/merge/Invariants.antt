@@ -4,7 +4,7 @@ use Rattle.tb_lanes.specs.Linking.{order_of}
 use Rattle.tb_lanes.specs.Rows.{IsTold, JoinsMore}
 use Rattle.tb_order.proofs.merging.merge.Given as goal
 
--- the ends that were looked at, and those that were skipped, are told of
+-- the ends that were looked at, and those that were skipped, are listed
 abbrev pub invariant-back : goal.invariant-back
 invariant-back l = record {
   within : l.left ≤ length l.ends.places.items;

@@ -3,7 +3,7 @@ use Rattle.std.specs.Prelude.{slice_index_or}
 use Rattle.tb_lanes.specs.Clocks.{AreOrdinals}
 use Rattle.tb_order.proofs.ordinals.ordinals_of.Given as goal
 
--- those of the entries so far
+-- those of the stored steps so far
 abbrev pub invariant-loop-at : goal.invariant-loop-at
 invariant-loop-at l = record {
   listed : length l.ordinals.items ≡ l.at;

@@ -2,7 +2,7 @@ use Rattle.std.proofs.Common.{◌≡◌, ◌≤◌, ◌+◌, map, length}
 use Rattle.tb_read.specs.Clauses.{item_count}
 use Rattle.tb_read.proofs.clauses.item_count.Given as goal
 
--- the words that are left tell the rest of what all words tell
+-- the words that are left say the rest of what all words say
 abbrev pub invariant-loop-left : goal.invariant-loop-left
 invariant-loop-left l = record {
   counted : l.count + item_count l.on_wait (map (λ word. word.now) l.left) ≡ item_count l.on_wait (map (λ word. word.now) l.words);

@@ -4,7 +4,7 @@ use Rattle.tb_read.specs.Meaning.{lines_until}
 use Rattle.tb_read.specs.Shown.{shown_line}
 use Rattle.tb_read.proofs.reading.read_lines.Given as goal
 
--- what the lines in front of the line `at` tell, and that none of them is faulty
+-- what the lines in front of the line `at` say, and that none of them is faulty
 abbrev pub invariant-loop-at : goal.invariant-loop-at
 invariant-loop-at l = record {
   few : l.at ≤ 65537;

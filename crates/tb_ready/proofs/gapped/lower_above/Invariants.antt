@@ -4,7 +4,7 @@ use Rattle.std.specs.VecDeque.{deque_capacity}
 use Rattle.tb_ready.specs.Order.{moved_up}
 use Rattle.tb_ready.proofs.gapped.lower_above.Given as goal
 
--- the places so far have moved, and the others stand
+-- the indexes so far have moved, and the others are there
 abbrev pub invariant-loop-k : goal.invariant-loop-k
 invariant-loop-k l = record {
   len : length l.ring.items ≡ length l.fn.ring.items;

@@ -6,7 +6,7 @@ use Rattle.tb_model.specs.Names.{name_cmp}
 use Rattle.tb_ready.specs.Layout.{name_at}
 use Rattle.tb_ready.proofs.order.place_of.Given as goal
 
--- lesser names in front of the half that is left, and none behind it
+-- lesser names in front of the half that is left, and none after it
 abbrev pub invariant-halves : goal.invariant-halves
 invariant-halves l = record {
   low : l.low ≤ l.high;

@@ -5,7 +5,7 @@ use Rattle.tb_view.specs.Steps.{AreCounts}
 use Rattle.tb_replies.proofs.HistoryLemmas.{so_far}
 use Rattle.tb_replies.proofs.history.tell_steps.Given as goal
 
--- the steps so far are counted and told, and no call failed
+-- the steps so far are counted and written, and no call failed
 abbrev pub invariant-steps : goal.invariant-steps
 invariant-steps g l = record {
   counts : AreCounts (history_of (take l.at l.entries)) l.counts;

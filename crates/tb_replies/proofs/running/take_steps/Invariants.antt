@@ -4,7 +4,7 @@ use Rattle.tb_draft.specs.Written.{Told}
 use Rattle.tb_replies.proofs.CourseLemmas.{Going}
 use Rattle.tb_replies.proofs.running.take_steps.Given as goal
 
--- the rest of the course stands after the steps so far, and no call failed
+-- the rest of the course is after the steps so far, and no call failed
 abbrev pub invariant-steps : goal.invariant-steps
 invariant-steps g l = record {
   within : l.count ≤ l.most;

@@ -6,7 +6,7 @@ use Rattle.tb_steps.specs.Scans.{history_of, step_at}
 use Rattle.tb_roll.specs.Comparing.{AreMatched}
 use Rattle.tb_roll.proofs.comparing.comes_behind.Given as goal
 
--- it comes behind those that were asked
+-- it comes after those that were asked
 abbrev pub invariant-loop-earlier : goal.invariant-loop-earlier
 invariant-loop-earlier l =
     (others : List Entry) (i : StepId) (v : Entry) → AreMatched l.entries l.places others → step_at l.entries l.later ≡ Some i → v ≡ get_or l.entries l.later v

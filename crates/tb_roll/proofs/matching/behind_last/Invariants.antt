@@ -3,7 +3,7 @@ use Rattle.tb_model.specs.Facts.{own}
 use Rattle.tb_steps.specs.Scans.{history_of}
 use Rattle.tb_roll.proofs.matching.behind_last.Given as goal
 
--- those behind what is left are of other tasks
+-- those after what is left are of other tasks
 abbrev pub invariant-back : goal.invariant-back
 invariant-back l = record {
   within : l.left ≤ l.at;

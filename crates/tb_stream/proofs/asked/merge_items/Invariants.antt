@@ -7,7 +7,7 @@ use Rattle.tb_stream.specs.Joins.{AreJoined, IsChildEnd, IsWaiting, Merges}
 use Rattle.tb_stream.specs.Seen.{Run}
 use Rattle.tb_stream.proofs.asked.merge_items.Given as goal
 
--- those that the items so far may meet are told of
+-- those that the items so far may meet are listed
 abbrev pub invariant-loop-item : goal.invariant-loop-item
 invariant-loop-item l = record {
   met : (r : Run) (n : ℕ) (lanes : Lanes) → IsWaiting r n lanes l.order l.waiter → AreJoined r n lanes l.order.clocks.rows.items l.waiter.step.lane l.initial.joined

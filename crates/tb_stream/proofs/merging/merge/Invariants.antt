@@ -6,7 +6,7 @@ use Rattle.tb_stream.specs.Joins.{AreJoined, IsWaiting, Merges}
 use Rattle.tb_stream.specs.Seen.{Run}
 use Rattle.tb_stream.proofs.merging.merge.Given as goal
 
--- the ends that were looked at, and those that were skipped, are told of
+-- the ends that were looked at, and those that were skipped, are listed
 abbrev pub invariant-back : goal.invariant-back
 invariant-back l = record {
   within : l.left ≤ length l.ends.items;

@@ -2,7 +2,7 @@ use Rattle.tb_verdict.specs.Held.{IsBehind}
 use Rattle.tb_verdict.specs.Texts.{Sofar}
 use Rattle.tb_verdict_tests.proofs.texts.left_of.Given as goal
 
--- the judge is behind some lines
+-- the judge is after some lines
 abbrev pub invariant-lines : goal.invariant-lines
 invariant-lines l = record {
   behind : (s : Sofar) × IsBehind l.judge s;

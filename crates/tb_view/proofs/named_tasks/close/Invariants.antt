@@ -1,7 +1,7 @@
 use Rattle.std.proofs.Common.{◌≡◌, ◌≤◌, ◌+◌, ◌++◌, reverse, vec_len, vec_capacity}
 use Rattle.tb_view.proofs.named_tasks.close.Given as goal
 
--- all tasks stand on one of the two sides of the gap, and there is room for all in front of it
+-- all tasks are on one of the two sides of the gap, and there is capacity for all in front of it
 abbrev pub invariant-back : goal.invariant-back
 invariant-back l = record {
   all : l.front.items ++ reverse l.back.items ≡ l.fn.front.items ++ reverse l.fn.back.items;

@@ -1,7 +1,7 @@
 use Rattle.std.proofs.Common.{◌≡◌, ◌++◌, reverse}
 use Rattle.tb_view.proofs.named_tasks.turn_to.Given as goal
 
--- all tasks stand on one of the two sides of the gap
+-- all tasks are on one of the two sides of the gap
 abbrev pub invariant-back : goal.invariant-back
 invariant-back l = l.front.items ++ reverse l.back.items ≡ l.fn.front.items ++ reverse l.fn.back.items
 

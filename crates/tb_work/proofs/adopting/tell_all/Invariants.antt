@@ -2,7 +2,7 @@ use Rattle.std.proofs.Common.{◌≡◌, ◌+◌, ◌≤◌, map, take, drop, le
 use Rattle.tb_work.specs.Receipts.{HaveNumbers, AreBelow, receipts_in}
 use Rattle.tb_work.proofs.adopting.tell_all.Given as goal
 
--- all is told up to the place
+-- all is noted up to the slot
 abbrev pub invariant-loop-place : goal.invariant-loop-place
 invariant-loop-place g l =
     (g.N.Team.slots.first ≤ l.place)

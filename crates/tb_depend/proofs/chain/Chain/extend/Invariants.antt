@@ -2,7 +2,7 @@ use Rattle.std.proofs.Common.{◌≡◌, ◌+◌, ◌++◌, take}
 use Rattle.tb_depend.specs.Chains.{KeepsNames}
 use Rattle.tb_depend.proofs.chain.Chain.extend.Given as goal
 
--- the items so far, in the room that was there
+-- the items so far, in the capacity that was there
 abbrev pub invariant-loop-item : goal.invariant-loop-item
 invariant-loop-item l = record {
   items : l.self.items ≡ l.fn.self.items ++ take l.item-index l.new;

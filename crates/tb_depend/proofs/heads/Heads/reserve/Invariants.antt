@@ -3,7 +3,7 @@ use Rattle.tb_model.specs.declared.item.Item.{Item}
 use Rattle.tb_depend.specs.Chains.{AreSameHeads, KeepsHeads, has_head}
 use Rattle.tb_depend.proofs.heads.Heads.reserve.Given as goal
 
--- the items so far have their room
+-- the items so far have their capacity
 abbrev pub invariant-loop-item : goal.invariant-loop-item
 invariant-loop-item l = record {
   same : AreSameHeads l.fn.self l.self;

@@ -4,7 +4,7 @@ use Rattle.tb_depend.specs.Numbers.{numbers_where}
 use Rattle.tb_depend.specs.Relations.{depends}
 use Rattle.tb_depend.proofs.siblings.Siblings.fill_preds.Given as goal
 
--- those that pass, so far, in the room that there was
+-- those that pass, so far, in the capacity that there was
 abbrev pub invariant-loop-k : goal.invariant-loop-k
 invariant-loop-k l = record {
   found : l.numbers.items ≡ numbers_where (depends l.self.siblings l.n) l.k;

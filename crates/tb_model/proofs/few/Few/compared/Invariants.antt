@@ -2,7 +2,7 @@ use Rattle.std.proofs.Common.{◌≡◌, length}
 use Rattle.tb_model.specs.Names.{name_cmp}
 use Rattle.tb_model.proofs.few.Few.compared.Given as goal
 
--- what is left of both tells their order
+-- what is left of both says their order
 abbrev pub invariant-levels : goal.invariant-levels
 invariant-levels l = name_cmp l.self l.other ≡ name_cmp l.own l.others
 

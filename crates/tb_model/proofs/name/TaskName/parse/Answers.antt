@@ -20,7 +20,7 @@ parts-preserved c = record {
   room = omega (arith, c.in_ok-push.ensures.capacity, c.parts.invariant.room);
 }
 
--- the name has the numbers that were read
+-- the name has the ordinals that were read
 pub returns-clause-name : goal.returns-clause-name
 returns-clause-name c =
     let read = all_read c.args.text.now c.parts.rest.now c.parts.at c.parts.invariant.last c.parts-test.false c.parts.numbers.items c.parts.invariant.name in

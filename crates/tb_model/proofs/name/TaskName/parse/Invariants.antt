@@ -3,7 +3,7 @@ use Rattle.tb_model.specs.Names.{AreFromOne}
 use Rattle.tb_model.specs.Spelling.{spells_name, spelled_name, IsLastPart}
 use Rattle.tb_model.proofs.name.TaskName.parse.Given as goal
 
--- the numbers so far, then those of the parts that are left, are the name
+-- the ordinals so far, then those of the parts that are left, are the name
 abbrev pub invariant-parts : goal.invariant-parts
 invariant-parts l = record {
   last : IsLastPart l.rest l.at;

@@ -11,7 +11,7 @@ pub returns-in-Ok-clause-text : goal.returns-in-Ok-clause-text
 returns-in-Ok-clause-text c =
     id_written c.args.text.now c.ordinal.result (c.ordinal.ensures ∙ ap ordinal_of c.behind_hash.ensures) c.in-Some.k c.in-Some.is c.in-Ok.task (c.in-Ok.ensures.text ∙ c.before_hash.ensures)
 
--- with its number read, the text spells a step where it spells a task
+-- with its ordinal read, the text spells a step where it spells a task
 pub returns-in-Ok-clause-bad : goal.returns-in-Ok-clause-bad
 returns-in-Ok-clause-bad c =
     let same : spells_step_id c.args.text.now ≡ spells_name (before_hash c.args.text.now) = by_task c.args.text.now c.ordinal.result (c.ordinal.ensures ∙ ap ordinal_of c.behind_hash.ensures) c.in-Some.k c.in-Some.is in

@@ -15,7 +15,8 @@ returns-in-None-clause-stands g c = subst (λ es. All (Stands es) (all_receipts 
 pub returns-clause-stands : goal.returns-clause-stands
 returns-clause-stands g c = subst (λ es. All (Stands es) (all_receipts c.args.seats.items)) c.journal_of.ensures.entries c.take_seats.ensures.stands
 
--- the receipts are as many as the entries from the first slot with a cell on, stand in the journal, and are their own seats'
+-- the receipts are as many as the entries from the first slot with a cell on, are in the journal,
+-- and are their own seats'
 pub returns-in-None-clause-whole : goal.returns-in-None-clause-whole
 returns-in-None-clause-whole g c numbers =
     let taken = c.take_seats.ensures in
