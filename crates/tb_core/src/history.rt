@@ -47,7 +47,7 @@ impl<'a> Model for History<'a> {
 }
 
 impl<'a> History<'a> {
-    /// All that is stored in these stored steps, which are those of the tables.
+    /// All the stored steps, which are those of the tables.
     #[inline(always)]
     pub(crate) fn of(entries: &'a [Entry], tables: &'a Tables, places: &'a Places) -> History<'a>
         requires stored { AllZip (IsStored (names_in tables.now)) entries.now (entries_in tables.now entries.now) }
