@@ -1,26 +1,26 @@
 -- The stored steps that are passed over, where the first that needs a step is looked for, don't
 -- need it.
 use Rattle.std.proofs.Common.{◌≡◌, ◌<◌, ◌≤◌, ◌+◌, ◌-◌, ◌==◌, ℕ, zero, suc, List, [], ◌∷◌, ◌++◌, Bool, true, false, ◌&&◌, ◌||◌, Some, None, length, take, drop, get_or, refl, sym, ap, ◌∙◌, subst, arith, rules, tests, ltb}
-use Rattle.std.proofs.lemmas.Bool.{true≢false, ltb-true, ltb-false}
+use Rattle.std.proofs.lemmas.Bool.{true≢false, ltb-true, ltb-false, or_left, or_right}
 use Rattle.std.proofs.lemmas.List.{get_or_default}
 use Rattle.tb_model.specs.declared.action.Action.{Action}
 use Rattle.tb_model.specs.declared.action.Action.TheVariants.{Start, Let, Load, Store, Print, Spawn, Wait, Open, Close, Test, End, Fault}
 use Rattle.tb_model.specs.declared.event.Event.{Event}
 use Rattle.tb_model.specs.declared.step_id.StepId.{StepId}
 use Rattle.tb_model.specs.declared.item.Item.{Item}
-use Rattle.tb_model.specs.Items.{Relation, is_apart, is_before, some_meet}
-use Rattle.tb_model.specs.Names.{Name, same_name, is_child, is_elder}
-use Rattle.tb_model.specs.Facts.{History, holds, is_end, is_of, items_for, items_of, own, is_print, is_spawn_of, is_store_to, touches}
+use Rattle.tb_model.specs.Items.{Relation, has_no_items, is_apart, is_before, some_meet}
+use Rattle.tb_model.specs.Names.{Name, same_name, is_child, is_elder, is_within, parent}
+use Rattle.tb_model.specs.Facts.{History, holds, is_end, is_member, is_of, items_for, items_of, own, is_print, is_spawn_of, is_store_to, touches}
 use Rattle.tb_model.specs.Needs.{conflicts, needs, needs_end_of, waits_for}
 use Rattle.tb_model.specs.Needers.{first_needer}
 use Rattle.tb_model.proofs.TestLemmas.{same_true, same_refl}
 use Rattle.tb_steps.specs.Entries.{Entry}
 use Rattle.tb_core.specs.Lending.{IsNoneBetween}
-use Rattle.tb_core.specs.Needing.{NoneNeeds, may_wait, may_wait_for, meets}
+use Rattle.tb_core.specs.Needing.{NoneNeeds, NoneOf, OnlyAbove, is_above, may_wait, may_wait_for, meets}
 use Rattle.tb_steps.specs.Scans.{AreLegal, history_of, step_at}
 use Rattle.tb_steps.proofs.FirstLemmas.{front_legal, there, none_next}
 use Rattle.tb_steps.proofs.ScanLemmas.{history_cut}
-use Rattle.tb_steps.proofs.NeedsLemmas.{held_within}
+use Rattle.tb_steps.proofs.NeedsLemmas.{held_within, member_within}
 
 -- ---- what each part of the test says
 
@@ -209,6 +209,109 @@ none_waits some entries at from next u w legal within inside here there ends no_
         (subst (λ (y : Entry). needs (history_of (take next entries)) v.event y.event ≡ false) one
         (subst (λ (y : Entry). needs (history_of (take next entries)) y.event u.event ≡ false) other
         (end_not_needed some (take next entries) w.event u.event (front_legal entries next w inside there legal) ends (λ h. none_in_front entries next w u.event.task inside there (no_items h)) apart)))
+
+-- ---- the end of a task without depend items is needed by the task and by those above it alone
+
+within_self : (t : Name) → is_within t t ≡ true
+within_self [] = refl
+within_self (n ∷ t) = or_left (same_name (n ∷ t) (n ∷ t)) _ (same_refl (n ∷ t))
+
+child_within : (t u : Name) → is_child t u ≡ true → is_within t u ≡ true
+child_within t [] h = absurd (true≢false (sym h))
+child_within t (n ∷ u) h = or_right (same_name t (n ∷ u)) (is_within t u) (subst (λ w. is_within w u ≡ true) (same_true u t h) (within_self u))
+
+-- what would say that it is within says nothing
+not_so : (b w : Bool) → (b ≡ true → w ≡ true) → w ≡ false → b ≡ false
+not_so false w h out = refl
+not_so true w h out = absurd (true≢false (sym (h refl) ∙ out))
+
+no_child : (t u : Name) → is_within t u ≡ false → is_child t u ≡ false
+no_child t u out = not_so (is_child t u) (is_within t u) (child_within t u) out
+
+below_waits : (front : List Entry) (t : Name) (a : Action) (u : Name) → AreLegal front → items_of u (history_of front) ≡ [] → is_within t u ≡ false → waits_for (history_of front) t a u ≡ false
+below_waits front t Start u legal none out = no_start_waits (history_of front) t u none
+below_waits front t (Wait items) u legal none out = ap (λ b. b && (has_no_items items || some_meet is_before items (items_of u (history_of front)))) (no_child t u out)
+below_waits front t Close u legal none out = not_so (is_member (own t (history_of front)) u) (is_within t u) (member_within front t u legal) out
+below_waits front t (Let r x) u legal none out = refl
+below_waits front t (Load r c x) u legal none out = refl
+below_waits front t (Store c x) u legal none out = refl
+below_waits front t (Print x) u legal none out = refl
+below_waits front t (Spawn s) u legal none out = refl
+below_waits front t Open u legal none out = refl
+below_waits front t (Test b) u legal none out = refl
+below_waits front t End u legal none out = refl
+below_waits front t Fault u legal none out = refl
+
+below_needs : (front : List Entry) (v u : Event) → AreLegal front → is_end u.action ≡ true → items_of u.task (history_of front) ≡ [] → is_within v.task u.task ≡ false → needs (history_of front) v u ≡ false
+below_needs front v u legal ends none out =
+    let H = history_of front in
+    let p = apart u.action v (ended_meets u.action v ends) in
+    let same : same_name u.task v.task ≡ true → is_within v.task u.task ≡ true =
+    λ h. subst (λ w. is_within w u.task ≡ true) (same_true u.task v.task h) (within_self u.task) in
+    no_wait (is_of v.task u) (is_spawn_of v.task u.action) (conflicts v.action u.action) (is_end u.action) (is_print v.action && is_print u.action) (holds (own v.task H) u.task) (waits_for H v.task v.action u.task)
+    (not_so (same_name u.task v.task) (is_within v.task u.task) same out) p.spawns (conflict_none v.action u.action p.cells)
+    (not_so (holds (own v.task H) u.task) (is_within v.task u.task) (λ h. child_within v.task u.task (held_within front v.task u.task legal h)) out)
+    (below_waits front v.task v.action u.task legal none out) p.prints
+
+needer_above : (entries : List Entry) (k : ℕ) (v u : Entry) → AreLegal entries → k < length entries → v ≡ get_or entries k v → is_end u.event.action ≡ true → items_of u.event.task (history_of entries) ≡ [] → needs (history_of (take k entries)) v.event u.event ≡ true
+    → is_within v.event.task u.event.task ≡ true
+needer_above entries k v u legal inside there ends none needed = by (is_within v.event.task u.event.task) refl
+  where
+    by : (b : Bool) → is_within v.event.task u.event.task ≡ b → b ≡ true
+    by true e = refl
+    by false e =
+        let alone = below_needs (take k entries) v.event u.event (front_legal entries k v inside there legal) ends (none_in_front entries k v u.event.task inside there none) e in
+        absurd (true≢false (sym needed ∙ alone))
+
+-- who is above the task and not the task itself is its parent or above that
+one_up : (t s : Name) → is_within s t ≡ true → same_name s t ≡ false → is_above (parent t) s ≡ true
+one_up [] s above other = absurd (true≢false (sym above ∙ other))
+one_up (n ∷ t) s above other = subst (λ b. (b || is_within s t) ≡ true) other above
+
+-- where the task itself takes no step, its parent and those above that are left
+pub from_parent : (entries : List Entry) (at from to : ℕ) (u : Entry) → AreLegal entries → at < length entries → to ≤ length entries → u ≡ get_or entries at u → is_end u.event.action ≡ true → items_of u.event.task (history_of entries) ≡ []
+    → IsNoneBetween (is_of u.event.task) entries from to → OnlyAbove (parent u.event.task) entries at from to
+from_parent entries at from to u legal within high here ends no_items none k v x low l v_there x_there needed =
+    let one : x ≡ u = x_there ∙ sym (get_or_default entries at u x within) ∙ sym here in
+    let needed_u = subst (λ (y : Entry). needs (history_of (take k entries)) v.event y.event ≡ true) one needed in
+    one_up u.event.task v.event.task (needer_above entries k v u legal (omega (arith, l, high)) v_there ends no_items needed_u) (none k v low l v_there)
+
+-- one task more that has no step that needs it
+pub next_parent : (entries : List Entry) (at from last to : ℕ) (t : Name) → to ≤ last → OnlyAbove (Some t) entries at from last → NoneOf t entries at from to → OnlyAbove (parent t) entries at from to
+next_parent entries at from last to t lower only none k v u low l v_there u_there needed =
+    one_up t v.event.task (only k v u low (omega (arith, l, lower)) v_there u_there needed) (by (is_of t v.event) refl)
+  where
+    by : (b : Bool) → is_of t v.event ≡ b → b ≡ false
+    by false e = refl
+    by true e = absurd (true≢false (sym needed ∙ none k v u low l v_there u_there e))
+
+-- none is left above the root
+pub above_root : (entries : List Entry) (at from to : ℕ) → OnlyAbove None entries at from to → NoneNeeds entries at from to
+above_root entries at from to only k v u low l v_there u_there = by (needs (history_of (take k entries)) v.event u.event) refl
+  where
+    by : (b : Bool) → needs (history_of (take k entries)) v.event u.event ≡ b → b ≡ false
+    by false e = refl
+    by true e = absurd (true≢false (sym (only k v u low l v_there u_there e)))
+
+-- ---- the steps of one task
+
+pub none_own : (entries : List Entry) (at from own to : ℕ) (t : Name) → to ≤ own → IsNoneBetween (is_of t) entries from own → NoneOf t entries at from to
+none_own entries at from own to t low none k v u from_k to_k there same mine = absurd (true≢false (sym mine ∙ none k v from_k (omega (arith, to_k, low)) there))
+
+pub none_own_next : (entries : List Entry) (at from next own to : ℕ) (t : Name) (u w : Entry) → at < length entries → next < length entries → u ≡ get_or entries at u → w ≡ get_or entries next w → needs (history_of (take next entries)) w.event u.event ≡ false
+    → to ≤ own → NoneOf t entries at from next → IsNoneBetween (is_of t) entries (next + 1) own → NoneOf t entries at from to
+none_own_next entries at from next own to t u w within inside here there apart lower none others k v x low high v_there x_there mine = by (ltb k next) refl (ltb next k) refl
+  where
+    by : (a : Bool) → ltb k next ≡ a → (b : Bool) → ltb next k ≡ b → needs (history_of (take k entries)) v.event x.event ≡ false
+    by true s b e = none k v x low (ltb-true k next s) v_there x_there mine
+    by false s true e = absurd (true≢false (sym mine ∙ others k v (omega (arith, ltb-true next k e)) (omega (arith, high, lower)) v_there))
+    by false s false e =
+        let same : k ≡ next = omega (arith, ltb-false k next s, ltb-false next k e) in
+        let one : u ≡ x = here ∙ get_or_default entries at u x within ∙ sym x_there in
+        let other : w ≡ v = there ∙ get_or_default entries next w v inside ∙ ap (λ n. get_or entries n v) (sym same) ∙ sym v_there in
+        subst (λ n. needs (history_of (take n entries)) v.event x.event ≡ false) (sym same)
+        (subst (λ (y : Entry). needs (history_of (take next entries)) v.event y.event ≡ false) one
+        (subst (λ (y : Entry). needs (history_of (take next entries)) y.event u.event ≡ false) other apart))
 
 -- ---- those that are passed over
 

@@ -1,9 +1,9 @@
 -- Where a step may be needed directly. No public clause cites this module.
-use Rattle.std.specs.Prelude.{◌≡◌, ◌≤◌, ◌<◌, ℕ, List, Bool, true, false, ◌||◌, IsFalse, get_or, take}
+use Rattle.std.specs.Prelude.{◌≡◌, ◌≤◌, ◌<◌, ℕ, List, Bool, true, false, ◌||◌, IsFalse, IsTrue, Option, Some, None, get_or, take}
 use Rattle.tb_model.specs.declared.action.Action.{Action}
 use Rattle.tb_model.specs.declared.action.Action.TheVariants.{Start, Load, Store, Print, Spawn, Wait, Close}
 use Rattle.tb_model.specs.declared.event.Event.{Event}
-use Rattle.tb_model.specs.Names.{Name, same_name, is_child}
+use Rattle.tb_model.specs.Names.{Name, same_name, is_child, is_within}
 use Rattle.tb_model.specs.Facts.{is_of, is_print, touches}
 use Rattle.tb_model.specs.Needs.{needs}
 use Rattle.tb_steps.specs.Entries.{Entry}
@@ -33,3 +33,18 @@ may_wait_for has_items a t u = may_wait has_items a || (is_child t u || same_nam
 abbrev pub NoneNeeds : List Entry → ℕ → ℕ → ℕ → Type 0
 NoneNeeds entries at from to =
     (k : ℕ) (v u : Entry) → from ≤ k → k < to → v ≡ get_or entries k v → u ≡ get_or entries at u → IsFalse (needs (history_of (take k entries)) v.event u.event)
+
+-- no entry of the task from the one place on, in front of the other, directly needs the one at the place `at`
+abbrev pub NoneOf : Name → List Entry → ℕ → ℕ → ℕ → Type 0
+NoneOf t entries at from to =
+    (k : ℕ) (v u : Entry) → from ≤ k → k < to → v ≡ get_or entries k v → u ≡ get_or entries at u → IsTrue (is_of t v.event) → IsFalse (needs (history_of (take k entries)) v.event u.event)
+
+-- the second is the first, where there is one, or is above it
+abbrev pub is_above : Option Name → Name → Bool
+is_above None s = false
+is_above (Some t) s = is_within s t
+
+-- an entry from the one place on, in front of the other, that directly needs the one at the place `at` is of this task, where there is one, or of one above it
+abbrev pub OnlyAbove : Option Name → List Entry → ℕ → ℕ → ℕ → Type 0
+OnlyAbove t entries at from to =
+    (k : ℕ) (v u : Entry) → from ≤ k → k < to → v ≡ get_or entries k v → u ≡ get_or entries at u → IsTrue (needs (history_of (take k entries)) v.event u.event) → IsTrue (is_above t v.event.task)

@@ -1,19 +1,20 @@
 //! Which event of the stored steps needs which. What tasks named at their spawns is known to the
-//! tables, and where a step that is no end may be needed to the indexes; all else is found by
-//! scans. No memory is taken.
+//! tables, and where a step may be needed mostly to the indexes; all else is found by scans. Memory
+//! is taken for names alone, and where it is refused there is a scan too.
 
-ghost use Rattle.std.specs.Prelude.{◌≡◌, ◌<◌, ◌≤◌, [], IfSome, IsFalse, IsTrue, Some, length, take, get_or};
+ghost use Rattle.std.specs.Prelude.{◌≡◌, ◌<◌, ◌≤◌, [], IfOk, IfSome, IsFalse, IsTrue, Some, length, take, get_or};
 ghost use Rattle.tb_model.specs.declared.step_id.StepId.{StepId};
 ghost use Rattle.tb_model.specs.Facts.{apart, before, covers, is_end, is_spawned, items_of};
 ghost use Rattle.tb_model.specs.Needs;
 ghost use Rattle.tb_model.specs.Needers;
 ghost use Rattle.tb_steps.specs.Entries.{Entry as AnEntry};
 ghost use Rattle.tb_core.specs.Lending.{IsNoneBetween};
-ghost use Rattle.tb_core.specs.Needing.{NoneNeeds, may_wait_for, meets};
+ghost use Rattle.tb_core.specs.Needing.{NoneNeeds, NoneOf, may_wait_for, meets};
 ghost use Rattle.tb_steps.specs.Scans.{AreLegal, history_of, step_at, found_step};
 
 use crate::history::History;
 use crate::scans::{holds, is_member};
+use std::alloc::AllocError;
 use tb_model::{Action, Item, TaskName, some_apart, some_before};
 
 /// The index of the earliest stored step that needs the one at this index.
@@ -61,8 +62,9 @@ fn has_items(entries: &History<'_>, at: usize) -> bool
     !entries.items(entries.task(at)).is_empty()
 }
 
-/// The first index from this one on at which the end at `at` may be waited for, else how many there
-/// are.
+/// An index from this one on, in front of which no stored step needs the end at `at`. Where its task
+/// has no depend items, only the steps of tasks above it are looked at. Those of a task far from the
+/// root are not: each is found by a walk down to it.
 fn next_wait(entries: &History<'_>, at: usize, from: usize) -> usize
     requires at { at < from }
     requires from { from ≤ length entries.now }
@@ -71,9 +73,78 @@ fn next_wait(entries: &History<'_>, at: usize, from: usize) -> usize
     ensures within { result ≤ length entries.now }
     ensures none { NoneNeeds entries.now at from result }
 {
+    let has_items = has_items(entries, at);
+    if has_items || entries.task(at).is_deep() {
+        return scanned_wait(entries, at, from, has_items);
+    }
+    match next_above(entries, at, from) {
+        Ok(next) => next,
+        Err(_) => scanned_wait(entries, at, from, has_items),
+    }
+}
+
+/// The first index from this one on at which the end at `at` is needed, whose task has no depend
+/// items, else how many there are: what needs it is a step of its task or of one above.
+fn next_above(entries: &History<'_>, at: usize, from: usize) -> Result<usize, AllocError>
+    requires at { at < from }
+    requires from { from ≤ length entries.now }
+    requires end { (e : AnEntry) → e ≡ get_or entries.now at e → IsTrue (is_end e.event.action) }
+    requires items { (e : AnEntry) → e ≡ get_or entries.now at e →
+        items_of e.event.task (history_of entries.now) ≡ [] }
+    ensures from { IfOk result (λ next. from ≤ next) }
+    ensures within { IfOk result (λ next. next ≤ length entries.now) }
+    ensures none { IfOk result (λ next. NoneNeeds entries.now at from next) }
+{
     entries.is_legal();
     let ended = entries.task(at);
-    let has_items = has_items(entries, at);
+    let mut next = entries.next_of(ended, from);
+    let mut above = ended.parent()?;
+    'up: while let Some(task) = above {
+        next = next_needer_of(entries, at, &task, from, next);
+        above = task.parent()?;
+    }
+    Ok(next)
+}
+
+/// The first index from `from` on at which a step of the task needs that at `at`, else the index `to`.
+fn next_needer_of(
+    entries: &History<'_>,
+    at: usize,
+    task: &TaskName,
+    from: usize,
+    to: usize,
+) -> usize
+    requires at { at < from }
+    requires from { from ≤ to }
+    requires to { to ≤ length entries.now }
+    ensures from { from ≤ result }
+    ensures to { result ≤ to }
+    ensures none { NoneOf task.now entries.now at from result }
+{
+    let mut next = entries.next_of(task, from).min(to);
+    'own: while next < to {
+        if needs(entries, next, at) {
+            return next;
+        }
+        next = entries.next_of(task, next + 1).min(to);
+    }
+    next
+}
+
+/// The first index from this one on at which the end at `at` may be waited for, else how many there
+/// are.
+fn scanned_wait(entries: &History<'_>, at: usize, from: usize, has_items: bool) -> usize
+    requires at { at < from }
+    requires from { from ≤ length entries.now }
+    requires end { (e : AnEntry) → e ≡ get_or entries.now at e → IsTrue (is_end e.event.action) }
+    requires items { IsFalse has_items → (e : AnEntry) → e ≡ get_or entries.now at e →
+        items_of e.event.task (history_of entries.now) ≡ [] }
+    ensures from { from ≤ result }
+    ensures within { result ≤ length entries.now }
+    ensures none { NoneNeeds entries.now at from result }
+{
+    entries.is_legal();
+    let ended = entries.task(at);
     let end = entries.len();
     let mut next = from;
     'past: while next < end {

@@ -1,6 +1,6 @@
 use Rattle.std.proofs.Common.{◌≤◌, ◌-◌, length}
 use Rattle.tb_core.specs.Needing.{NoneNeeds}
-use Rattle.tb_core.proofs.needing.next_wait.Given as goal
+use Rattle.tb_core.proofs.needing.scanned_wait.Given as goal
 
 abbrev pub invariant-past : goal.invariant-past
 invariant-past l = record {
