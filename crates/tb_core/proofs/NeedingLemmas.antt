@@ -151,13 +151,15 @@ none_before t (v ∷ b) front h = none_before t b front (rest (items_for t v.act
     rest [] ys none = none
     rest (x ∷ xs) ys none = let more : suc (length (xs ++ ys)) ≡ 0 = ap length none in absurd (omega (arith, more))
 
-pub none_in_front : (entries : List Entry) (next : ℕ) (w : Entry) (t : Name) → next < length entries → w ≡ get_or entries next w → items_of t (history_of entries) ≡ [] → items_of t (history_of (take next entries)) ≡ []
+pub none_in_front : (entries : List Entry) (next : ℕ) (w : Entry) (t : Name) → next < length entries → w ≡ get_or entries next w
+    → items_of t (history_of entries) ≡ [] → items_of t (history_of (take next entries)) ≡ []
 none_in_front entries next w t inside there none =
     none_before t (w.event ∷ []) (history_of (take next entries))
     (none_before t (history_of (drop (suc next) entries)) (w.event ∷ history_of (take next entries))
     (sym (ap (items_of t) (history_cut entries next w inside there)) ∙ none))
 
-waits_none : (some : Bool) (H : History) (t : Name) (a : Action) (u : Name) → (some ≡ false → items_of u H ≡ []) → may_wait some a ≡ false → waits_for H t a u ≡ false
+waits_none : (some : Bool) (H : History) (t : Name) (a : Action) (u : Name) → (some ≡ false → items_of u H ≡ []) → may_wait some a ≡ false
+    → waits_for H t a u ≡ false
 waits_none some H t Start u none h = no_start_waits H t u (none h)
 waits_none some H t (Wait items) u none h = absurd (true≢false h)
 waits_none some H t Close u none h = absurd (true≢false h)
@@ -183,7 +185,8 @@ no_wait : (a b c d e x y : Bool) → a ≡ false → b ≡ false → c ≡ false
 no_wait a b c d e x y pa pb pc px py pe = rw (pa, pb, pc, px, py, pe) (ap (λ z. z || false) (no_right d))
 
 -- the stored step may not need the end
-end_not_needed : (some : Bool) (front : List Entry) (v u : Event) → AreLegal front → is_end u.action ≡ true → (some ≡ false → items_of u.task (history_of front) ≡ []) → may_wait_for some v.action v.task u.task ≡ false → needs (history_of front) v u ≡ false
+end_not_needed : (some : Bool) (front : List Entry) (v u : Event) → AreLegal front → is_end u.action ≡ true
+    → (some ≡ false → items_of u.task (history_of front) ≡ []) → may_wait_for some v.action v.task u.task ≡ false → needs (history_of front) v u ≡ false
 end_not_needed some front v u legal ends no_items none =
     let H = history_of front in
     let p = apart u.action v (ended_meets u.action v ends) in
@@ -195,7 +198,8 @@ end_not_needed some front v u legal ends no_items none =
     (waits_none some H v.task v.action u.task no_items (first_false (may_wait some v.action) _ none)) p.prints
 
 -- one stored step more
-pub none_waits : (some : Bool) (entries : List Entry) (at from next : ℕ) (u w : Entry) → AreLegal entries → at < length entries → next < length entries → u ≡ get_or entries at u → w ≡ get_or entries next w → is_end u.event.action ≡ true
+pub none_waits : (some : Bool) (entries : List Entry) (at from next : ℕ) (u w : Entry) → AreLegal entries → at < length entries → next < length entries
+    → u ≡ get_or entries at u → w ≡ get_or entries next w → is_end u.event.action ≡ true
     → (some ≡ false → items_of u.event.task (history_of entries) ≡ []) → may_wait_for some w.event.action w.event.task u.event.task ≡ false → NoneNeeds entries at from next → NoneNeeds entries at from (next + 1)
 none_waits some entries at from next u w legal within inside here there ends no_items apart none k v x low high v_there x_there = by (ltb k next) refl
   where
@@ -228,7 +232,8 @@ not_so true w h out = absurd (true≢false (sym (h refl) ∙ out))
 no_child : (t u : Name) → is_within t u ≡ false → is_child t u ≡ false
 no_child t u out = not_so (is_child t u) (is_within t u) (child_within t u) out
 
-below_waits : (front : List Entry) (t : Name) (a : Action) (u : Name) → AreLegal front → items_of u (history_of front) ≡ [] → is_within t u ≡ false → waits_for (history_of front) t a u ≡ false
+below_waits : (front : List Entry) (t : Name) (a : Action) (u : Name) → AreLegal front → items_of u (history_of front) ≡ [] → is_within t u ≡ false
+    → waits_for (history_of front) t a u ≡ false
 below_waits front t Start u legal none out = no_start_waits (history_of front) t u none
 below_waits front t (Wait items) u legal none out = ap (λ b. b && (has_no_items items || some_meet is_before items (items_of u (history_of front)))) (no_child t u out)
 below_waits front t Close u legal none out = not_so (is_member (own t (history_of front)) u) (is_within t u) (member_within front t u legal) out
@@ -242,7 +247,8 @@ below_waits front t (Test b) u legal none out = refl
 below_waits front t End u legal none out = refl
 below_waits front t Fault u legal none out = refl
 
-below_needs : (front : List Entry) (v u : Event) → AreLegal front → is_end u.action ≡ true → items_of u.task (history_of front) ≡ [] → is_within v.task u.task ≡ false → needs (history_of front) v u ≡ false
+below_needs : (front : List Entry) (v u : Event) → AreLegal front → is_end u.action ≡ true → items_of u.task (history_of front) ≡ []
+    → is_within v.task u.task ≡ false → needs (history_of front) v u ≡ false
 below_needs front v u legal ends none out =
     let H = history_of front in
     let p = apart u.action v (ended_meets u.action v ends) in
@@ -253,7 +259,8 @@ below_needs front v u legal ends none out =
     (not_so (holds (own v.task H) u.task) (is_within v.task u.task) (λ h. child_within v.task u.task (held_within front v.task u.task legal h)) out)
     (below_waits front v.task v.action u.task legal none out) p.prints
 
-needer_above : (entries : List Entry) (k : ℕ) (v u : Entry) → AreLegal entries → k < length entries → v ≡ get_or entries k v → is_end u.event.action ≡ true → items_of u.event.task (history_of entries) ≡ [] → needs (history_of (take k entries)) v.event u.event ≡ true
+needer_above : (entries : List Entry) (k : ℕ) (v u : Entry) → AreLegal entries → k < length entries → v ≡ get_or entries k v → is_end u.event.action ≡ true
+    → items_of u.event.task (history_of entries) ≡ [] → needs (history_of (take k entries)) v.event u.event ≡ true
     → is_within v.event.task u.event.task ≡ true
 needer_above entries k v u legal inside there ends none needed = by (is_within v.event.task u.event.task) refl
   where
@@ -269,7 +276,8 @@ one_up [] s above other = absurd (true≢false (sym above ∙ other))
 one_up (n ∷ t) s above other = subst (λ b. (b || is_within s t) ≡ true) other above
 
 -- where the task itself takes no step, its parent and those above that are left
-pub from_parent : (entries : List Entry) (at from to : ℕ) (u : Entry) → AreLegal entries → at < length entries → to ≤ length entries → u ≡ get_or entries at u → is_end u.event.action ≡ true → items_of u.event.task (history_of entries) ≡ []
+pub from_parent : (entries : List Entry) (at from to : ℕ) (u : Entry) → AreLegal entries → at < length entries → to ≤ length entries
+    → u ≡ get_or entries at u → is_end u.event.action ≡ true → items_of u.event.task (history_of entries) ≡ []
     → IsNoneBetween (is_of u.event.task) entries from to → OnlyAbove (parent u.event.task) entries at from to
 from_parent entries at from to u legal within high here ends no_items none k v x low l v_there x_there needed =
     let one : x ≡ u = x_there ∙ sym (get_or_default entries at u x within) ∙ sym here in
@@ -277,7 +285,8 @@ from_parent entries at from to u legal within high here ends no_items none k v x
     one_up u.event.task v.event.task (needer_above entries k v u legal (omega (arith, l, high)) v_there ends no_items needed_u) (none k v low l v_there)
 
 -- one task more that has no step that needs it
-pub next_parent : (entries : List Entry) (at from last to : ℕ) (t : Name) → to ≤ last → OnlyAbove (Some t) entries at from last → NoneOf t entries at from to → OnlyAbove (parent t) entries at from to
+pub next_parent : (entries : List Entry) (at from last to : ℕ) (t : Name) → to ≤ last → OnlyAbove (Some t) entries at from last → NoneOf t entries at from to
+    → OnlyAbove (parent t) entries at from to
 next_parent entries at from last to t lower only none k v u low l v_there u_there needed =
     one_up t v.event.task (only k v u low (omega (arith, l, lower)) v_there u_there needed) (by (is_of t v.event) refl)
   where
@@ -298,7 +307,8 @@ above_root entries at from to only k v u low l v_there u_there = by (needs (hist
 pub none_own : (entries : List Entry) (at from own to : ℕ) (t : Name) → to ≤ own → IsNoneBetween (is_of t) entries from own → NoneOf t entries at from to
 none_own entries at from own to t low none k v u from_k to_k there same mine = absurd (true≢false (sym mine ∙ none k v from_k (omega (arith, to_k, low)) there))
 
-pub none_own_next : (entries : List Entry) (at from next own to : ℕ) (t : Name) (u w : Entry) → at < length entries → next < length entries → u ≡ get_or entries at u → w ≡ get_or entries next w → needs (history_of (take next entries)) w.event u.event ≡ false
+pub none_own_next : (entries : List Entry) (at from next own to : ℕ) (t : Name) (u w : Entry) → at < length entries → next < length entries
+    → u ≡ get_or entries at u → w ≡ get_or entries next w → needs (history_of (take next entries)) w.event u.event ≡ false
     → to ≤ own → NoneOf t entries at from next → IsNoneBetween (is_of t) entries (next + 1) own → NoneOf t entries at from to
 none_own_next entries at from next own to t u w within inside here there apart lower none others k v x low high v_there x_there mine = by (ltb k next) refl (ltb next k) refl
   where
@@ -315,7 +325,8 @@ none_own_next entries at from next own to t u w within inside here there apart l
 
 -- ---- those that are passed over
 
-pub none_needs : (entries : List Entry) (at from own next to : ℕ) (u : Entry) → at < length entries → u ≡ get_or entries at u → is_end u.event.action ≡ false → to ≤ own → to ≤ next → IsNoneBetween (is_of u.event.task) entries from own
+pub none_needs : (entries : List Entry) (at from own next to : ℕ) (u : Entry) → at < length entries → u ≡ get_or entries at u → is_end u.event.action ≡ false
+    → to ≤ own → to ≤ next → IsNoneBetween (is_of u.event.task) entries from own
     → IsNoneBetween (meets u.event.action) entries from next → NoneNeeds entries at from to
 none_needs entries at from own next to u within here going low high others apart k v w from_k to_k there same =
     let one : u ≡ w = here ∙ get_or_default entries at u w within ∙ sym same in
@@ -323,7 +334,8 @@ none_needs entries at from own next to u within here going low high others apart
     (not_needed (history_of (take k entries)) v.event u.event (others k v from_k (omega (arith, to_k, low)) there) (apart k v from_k (omega (arith, to_k, high)) there) going)
 
 -- where none of so many stored steps needs the step, there is no first needer up to there
-pub none_passed : (entries : List Entry) (at from n : ℕ) (id : StepId) → AreLegal entries → step_at entries at ≡ Some id → at < from → from + n ≤ length entries → NoneNeeds entries at from (from + n)
+pub none_passed : (entries : List Entry) (at from n : ℕ) (id : StepId) → AreLegal entries → step_at entries at ≡ Some id → at < from
+    → from + n ≤ length entries → NoneNeeds entries at from (from + n)
     → first_needer id (history_of (take from entries)) ≡ None → first_needer id (history_of (take (from + n) entries)) ≡ None
 none_passed entries at from zero id legal step behind within none yet = let same : from ≡ from + 0 = omega arith in subst (λ k. first_needer id (history_of (take k entries)) ≡ None) same yet
 none_passed entries at from (suc n) id legal step behind within none yet =
@@ -336,7 +348,8 @@ none_passed entries at from (suc n) id legal step behind within none yet =
     subst (λ k. first_needer id (history_of (take k entries)) ≡ None) same
     (none_next entries at later u.0 w.0 id (omega (arith, behind)) inside u.1 w.1 step front false legal (λ x y x_there y_there. sym (none later x y (omega arith) (omega arith) x_there y_there)) refl)
 
-pub none_until : (entries : List Entry) (at from to : ℕ) (id : StepId) → AreLegal entries → step_at entries at ≡ Some id → at < from → from ≤ to → to ≤ length entries → NoneNeeds entries at from to
+pub none_until : (entries : List Entry) (at from to : ℕ) (id : StepId) → AreLegal entries → step_at entries at ≡ Some id → at < from → from ≤ to
+    → to ≤ length entries → NoneNeeds entries at from to
     → first_needer id (history_of (take from entries)) ≡ None → first_needer id (history_of (take to entries)) ≡ None
 none_until entries at from to id legal step behind low high none yet =
     let same : from + (to - from) ≡ to = omega (arith, low) in

@@ -123,10 +123,12 @@ module _ (o : Order) (entries : List Entry) (n : ℕ) (w : n < length entries) (
         rising = λ j k l m. ⊎_elim (λ e. before j k l e.0 e.1) (λ e. last j k l e.0 e.1) (place row count n few k m);
       }
         where
-          before : (j k : ℕ) → j < k → k < count → get_or (take count row ++ n ∷ []) k 0 ≡ get_or row k 0 → get_or (take count row ++ n ∷ []) j 0 < get_or (take count row ++ n ∷ []) k 0
+          before : (j k : ℕ) → j < k → k < count → get_or (take count row ++ n ∷ []) k 0 ≡ get_or row k 0
+              → get_or (take count row ++ n ∷ []) j 0 < get_or (take count row ++ n ∷ []) k 0
           before j k l m e = omega (arith, e, more_here row count n few j (omega (arith, l, m)), is.rising j k l (omega (arith, m, few)))
 
-          last : (j k : ℕ) → j < k → k ≡ count → get_or (take count row ++ n ∷ []) k 0 ≡ n → get_or (take count row ++ n ∷ []) j 0 < get_or (take count row ++ n ∷ []) k 0
+          last : (j k : ℕ) → j < k → k ≡ count → get_or (take count row ++ n ∷ []) k 0 ≡ n
+              → get_or (take count row ++ n ∷ []) j 0 < get_or (take count row ++ n ∷ []) k 0
           last j k l m e = omega (arith, e, more_here row count n few j (omega (arith, l, m)), is.low j (omega (arith, l, m, few)))
 
       -- ---- what isn't in the row any more
@@ -184,7 +186,8 @@ module _ (o : Order) (entries : List Entry) (n : ℕ) (w : n < length entries) (
         older : (x : ℕ) → x < n + 1 → is_in_at entries i x ≡ true → x < n
         older x k s = ⊎_elim (λ e. absurd (both_ways (is_in_at entries i n) other (subst (λ y. is_in_at entries i y ≡ true) e s))) (λ d. omega (arith, k, d)) (cases_eq x n)
 
-    module _ (sharing : is_in_at entries i n ≡ true) (many : ℕ) (few : many ≤ length loads) (passed : (j : ℕ) → many ≤ j → j < length loads → reaches o entries n (get_or loads j 0) ≡ true) where
+    module _ (sharing : is_in_at entries i n ≡ true) (many : ℕ) (few : many ≤ length loads)
+        (passed : (j : ℕ) → many ≤ j → j < length loads → reaches o entries n (get_or loads j 0) ≡ true) where
       pub kept_load : loads_at entries n ≡ true → AreRows o entries (n + 1) i writes (take many loads ++ n ∷ [])
       kept_load it = record {
         writes_in = row_same false writes is.writes_in;
@@ -196,7 +199,8 @@ module _ (o : Order) (entries : List Entry) (n : ℕ) (w : n < length entries) (
           older : (x : ℕ) → x < n + 1 → loads_at entries x ≡ false → x < n
           older x k t = ⊎_elim (λ e. absurd (both_ways (loads_at entries n) (subst (λ y. loads_at entries y ≡ false) e t) it)) (λ d. omega (arith, k, d)) (cases_eq x n)
 
-          left : (x : ℕ) → is_in_at entries i x ≡ true → loads_at entries x ≡ true → (x ≡ n) ⊎ (x ≢ n) → x < n + 1 → IsCovered o entries x writes ⊎ IsCovered o entries x (take many loads ++ n ∷ [])
+          left : (x : ℕ) → is_in_at entries i x ≡ true → loads_at entries x ≡ true → (x ≡ n) ⊎ (x ≢ n) → x < n + 1
+              → IsCovered o entries x writes ⊎ IsCovered o entries x (take many loads ++ n ∷ [])
           left x s t (inl e) k = inr (last_on true loads is.loads_in many few x (omega (arith, e)) (itself x e))
           left x s t (inr d) k =
               let l : x < n = omega (arith, k, d) in
@@ -206,7 +210,8 @@ module _ (o : Order) (entries : List Entry) (n : ℕ) (w : n < length entries) (
               (cut true loads is.loads_in many few passed x l b))
               (is.loads_left x l s t)
 
-      module _ (count : ℕ) (less : count ≤ length writes) (gone : (j : ℕ) → count ≤ j → j < length writes → reaches o entries n (get_or writes j 0) ≡ true) where
+      module _ (count : ℕ) (less : count ≤ length writes)
+          (gone : (j : ℕ) → count ≤ j → j < length writes → reaches o entries n (get_or writes j 0) ≡ true) where
         pub kept_write : loads_at entries n ≡ false → AreRows o entries (n + 1) i (take count writes ++ n ∷ []) (take many loads)
         kept_write it = record {
           writes_in = row_more false writes is.writes_in count less sharing it;
@@ -223,11 +228,13 @@ module _ (o : Order) (entries : List Entry) (n : ℕ) (w : n < length entries) (
                 ⊎_elim (λ c. kept_on false writes is.writes_in count less x c) (λ c. last_on false writes is.writes_in count less x (omega (arith, l)) c)
                 (cut false writes is.writes_in count less gone x l a)
 
-            left : (x : ℕ) → is_in_at entries i x ≡ true → loads_at entries x ≡ false → (x ≡ n) ⊎ (x ≢ n) → x < n + 1 → IsCovered o entries x (take count writes ++ n ∷ [])
+            left : (x : ℕ) → is_in_at entries i x ≡ true → loads_at entries x ≡ false → (x ≡ n) ⊎ (x ≢ n) → x < n + 1
+                → IsCovered o entries x (take count writes ++ n ∷ [])
             left x s t (inl e) k = last_on false writes is.writes_in count less x (omega (arith, e)) (itself x e)
             left x s t (inr d) k = let l : x < n = omega (arith, k, d) in on x l (is.writes_left x l s t)
 
-            covered : (x : ℕ) → x < n → IsCovered o entries x writes ⊎ IsCovered o entries x loads → IsCovered o entries x (take count writes ++ n ∷ []) ⊎ IsCovered o entries x (take many loads)
+            covered : (x : ℕ) → x < n → IsCovered o entries x writes ⊎ IsCovered o entries x loads
+                → IsCovered o entries x (take count writes ++ n ∷ []) ⊎ IsCovered o entries x (take many loads)
             covered x l (inl a) = inl (on x l a)
             covered x l (inr b) =
                 ⊎_elim (λ c. inr c) (λ c. inl (last_on false writes is.writes_in count less x (omega (arith, l)) c))
@@ -246,7 +253,8 @@ module _ (o : Order) (entries : List Entry) (n : ℕ) (w : n < length entries) (
     pub newest_is : (m : ℕ) → IsCandidate m → ((x : ℕ) → m ≤ x → x < n → Sharing x → reaches o entries n x ≡ true) → IsNewest o entries n m
     newest_is m c h = record { within = c.within; unordered = c.unordered; shares = c.shares; newest = h }
 
-    module _ (loading : Bool) (row : List ℕ) (in_row : IsRow entries n i loading row) (count : ℕ) (few : count ≤ length row) (sharing : (x : ℕ) → x < n → is_in_at entries i x ≡ true → loads_at entries x ≡ loading → Sharing x)
+    module _ (loading : Bool) (row : List ℕ) (in_row : IsRow entries n i loading row) (count : ℕ) (few : count ≤ length row)
+        (sharing : (x : ℕ) → x < n → is_in_at entries i x ≡ true → loads_at entries x ≡ loading → Sharing x)
         (last : 0 < count → reaches o entries n (get_or row (count - 1) 0) ≡ false)
       where
         pub candidate : IsCandidate (newest_of row count)
@@ -329,7 +337,8 @@ module _ (o : Order) (entries : List Entry) (n : ℕ) (w : n < length entries) w
   abbrev v : Entry
   v = at o entries n w
 
-  pub shares_by_number : (i : ℕ) → slot_of v.event.action ≡ Some i → (x : ℕ) → x < n → shares_at entries n x ≡ (is_in_at entries i x && (not (loads_at entries n) || not (loads_at entries x)))
+  pub shares_by_number : (i : ℕ) → slot_of v.event.action ≡ Some i → (x : ℕ) → x < n
+      → shares_at entries n x ≡ (is_in_at entries i x && (not (loads_at entries n) || not (loads_at entries x)))
   shares_by_number i is x l =
       let inside : x < length entries = omega (arith, l, w) in
       let u = at o entries x inside in
@@ -372,7 +381,8 @@ module _ (o : Order) (entries : List Entry) (n : ℕ) (w : n < length entries) (
 
   module _ (i : ℕ) (slot : slot_of x.event.action ≡ Some i) where
     -- the rows of all else stay
-    pub tables_met : (writes loads new_writes new_loads : ℕ → List ℕ) → ((j : ℕ) → AreRows o entries n j (writes j) (loads j)) → AreRows o entries (n + 1) i (new_writes i) (new_loads i)
+    pub tables_met : (writes loads new_writes new_loads : ℕ → List ℕ) → ((j : ℕ) → AreRows o entries n j (writes j) (loads j))
+        → AreRows o entries (n + 1) i (new_writes i) (new_loads i)
         → ((j : ℕ) → j ≢ i → new_writes j ≡ writes j) → ((j : ℕ) → j ≢ i → new_loads j ≡ loads j) → (j : ℕ) → AreRows o entries (n + 1) j (new_writes j) (new_loads j)
     tables_met writes loads new_writes new_loads are at_i same_writes same_loads j = by (cases_eq j i)
       where
@@ -383,7 +393,8 @@ module _ (o : Order) (entries : List Entry) (n : ℕ) (w : n < length entries) (
             (subst (λ ys. AreRows o entries (n + 1) j (writes j) ys) (sym (same_loads j d))
             (kept_same o entries n w j (writes j) (loads j) (are j) (in_here j false (in_slot x.event.action i j slot ∙ ne_eqb j i d))))
 
-    module _ (writes loads : List ℕ) (is : AreRows o entries n i writes loads) (count many : ℕ) (write : IsCut o entries n writes count) (load : IsCut o entries n loads many) where
+    module _ (writes loads : List ℕ) (is : AreRows o entries n i writes loads) (count many : ℕ) (write : IsCut o entries n writes count)
+        (load : IsCut o entries n loads many) where
       here_in : is_in_at entries i n ≡ true
       here_in = in_here i true (in_slot x.event.action i i slot ∙ eq-eqb i i refl)
 

@@ -15,7 +15,7 @@ use std::alloc::Global;
 use tb_model::TaskName;
 use tb_read::same_word;
 
-/// Numbers below this one may get a digit more.
+/// A value below this one may get a digit more.
 const MOST_BEFORE_A_DIGIT: u64 = 900_000_000_000_000_000;
 
 /// The number whose digits come first, up to a blank or the end, and what comes after it. A very

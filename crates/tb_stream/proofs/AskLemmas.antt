@@ -100,7 +100,8 @@ none_counts true = refl
 none_counts false = refl
 
 -- what waits counts, but for a start
-not_start : (e : Bool) (H : History) (t : Name) (a : Action) (u : Name) → (a ≡ Start → ⊥) → (wait_kind H t a u ≡ None) ⊎ (counts_some (order_of e) (wait_kind H t a u) ≡ true)
+not_start : (e : Bool) (H : History) (t : Name) (a : Action) (u : Name) → (a ≡ Start → ⊥)
+    → (wait_kind H t a u ≡ None) ⊎ (counts_some (order_of e) (wait_kind H t a u) ≡ true)
 not_start e H t Start u n = absurd (n refl)
 not_start e H t (Wait items) u n = by (covers H t items u)
   where
@@ -114,7 +115,8 @@ not_start e H t Close u n = by (is_member (own t H) u)
     by false = inl refl
 not_start e H t _ u n = inl refl
 
-or_kind : (e h : Bool) (k : Option NeedKind) → (h ≡ true → (k ≡ None) ⊎ (counts_some (order_of e) k ≡ true)) → counts_some (order_of e) (option_or k (some_if h Undeferred)) ≡ (counts_some (order_of e) k || h)
+or_kind : (e h : Bool) (k : Option NeedKind) → (h ≡ true → (k ≡ None) ⊎ (counts_some (order_of e) k ≡ true))
+    → counts_some (order_of e) (option_or k (some_if h Undeferred)) ≡ (counts_some (order_of e) k || h)
 or_kind e h None f = held_counts e h
 or_kind e true (Some k) f = ⊎_elim (λ n. absurd (let no : ◌≡◌ {A = Option NeedKind} (Some k) None = n in cc)) (λ c. c ∙ sym (ap (λ b. b || true) c)) (f refl)
 or_kind e false (Some k) f = sym (or_none (counts_some (order_of e) (Some k)))
@@ -161,14 +163,17 @@ module _ (r : Run) (n : ℕ) (w : n < length r.entries) where
             d (one_id r.legal.cells (front r n) a b v.task (legal_in_front r n (omega (arith, w))) ida (subst (HasId (front r n) b) same idb))))
 
     -- as the code asks
-    pub link_by : (a b : ℕ) → IsOf r n a → IsOf r x b → (exclusion : Bool) → exclusion ≡ r.exclusion → (act : Action) → IsEvent r n act → (waits held : Bool) → waits ≡ counts_some (order_of exclusion) (wait_kind (front r n) v.task act u.task) → held ≡ holds (own v.task (front r n)) u.task
+    pub link_by : (a b : ℕ) → IsOf r n a → IsOf r x b → (exclusion : Bool) → exclusion ≡ r.exclusion → (act : Action) → IsEvent r n act → (waits held : Bool)
+        → waits ≡ counts_some (order_of exclusion) (wait_kind (front r n) v.task act u.task) → held ≡ holds (own v.task (front r n)) u.task
         → ((a == b) || (waits || held)) ≡ links_at (order r) r.entries n x
     link_by a b of to exclusion same act event waits held waits_is held_is =
         ap₂ (λ p q. p || q) (same_ids a b of to) (ap₂ (λ p q. p || q) (waits_is ∙ ap₂ (λ e z. counts_some (order_of e) (wait_kind (front r n) v.task z u.task)) same (action_here r n w act event)) held_is)
         ∙ sym link_is
 
     -- it isn't linked to the ends of others, where nothing makes it wait
-    pub waits_none : (act : Action) → IsEvent r n act → {items : List Item} → ((t m : Name) → items ≡ items_of t (front r n) → wait_kind (front r n) t act m ≡ None) → items ≡ items_of v.task (front r n) → holds_some (own v.task (front r n)) ≡ false → links_at (order r) r.entries n x ≡ true
+    pub waits_none : (act : Action) → IsEvent r n act → {items : List Item}
+        → ((t m : Name) → items ≡ items_of t (front r n) → wait_kind (front r n) t act m ≡ None) → items ≡ items_of v.task (front r n)
+        → holds_some (own v.task (front r n)) ≡ false → links_at (order r) r.entries n x ≡ true
         → both_at of_one r.entries n x ≡ true
     waits_none act event none named free link = ⊎_elim (λ a. a) (λ s. absurd (⊎_elim waits held s)) (link_parts (order r) r.entries n x w i end.1 link)
       where
@@ -222,7 +227,8 @@ module _ (r : Run) (n : ℕ) (w : n < length r.entries) where
           let more : length (front r (suc m)) - k ≡ suc (length (front r m) - k) = omega (arith, front_long (suc m) i, front_long m (omega (arith, i)), low) in
           ap (λ j. drop j (front r (suc m))) more ∙ ap (drop (suc (length (front r m) - k))) (next_is r m (omega (arith, i))) ∙ rest
 
-  pub close_asked : v.action ≡ Close → (from : ℕ) → ((m : Name) → IsSpawned (older from (front r n)) m → is_member (own v.task (front r n)) m ≡ false) → (x : ℕ) → IsEnd r.entries n x → links_at (order r) r.entries n x ≡ true → from ≤ x
+  pub close_asked : v.action ≡ Close → (from : ℕ) → ((m : Name) → IsSpawned (older from (front r n)) m → is_member (own v.task (front r n)) m ≡ false)
+      → (x : ℕ) → IsEnd r.entries n x → links_at (order r) r.entries n x ≡ true → from ≤ x
   close_asked is from none x end link = ⊎_elim late early (cases_lt n from)
     where
       early : from ≤ n → from ≤ x

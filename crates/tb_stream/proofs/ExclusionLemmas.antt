@@ -134,15 +134,18 @@ comes_same e H v h =
     any_same (links Synchronised H v) (links WithExclusion H v) (λ u. links_same H v u h) (followers Synchronised e H)
     ∙ ap (list_any (links WithExclusion H v)) (followers_same e H h)
 
-after_same : (entries : List Entry) (p q : ℕ) → excludes_some (history_of (take p entries)) ≡ false → is_after Synchronised entries p q ≡ is_after WithExclusion entries p q
+after_same : (entries : List Entry) (p q : ℕ) → excludes_some (history_of (take p entries)) ≡ false
+    → is_after Synchronised entries p q ≡ is_after WithExclusion entries p q
 after_same entries p q h = at (slice_get entries p) (step_at entries q)
   where
-    at : (v : Option Entry) (e : Option StepId) → after_so Synchronised (history_of (take p entries)) v e ≡ after_so WithExclusion (history_of (take p entries)) v e
+    at : (v : Option Entry) (e : Option StepId)
+        → after_so Synchronised (history_of (take p entries)) v e ≡ after_so WithExclusion (history_of (take p entries)) v e
     at None e = refl
     at (Some v) None = refl
     at (Some v) (Some e) = comes_same e (history_of (take p entries)) v.event h
 
-pub reaches_same : (entries : List Entry) (p q : ℕ) → excludes_some (history_of (take p entries)) ≡ false → reaches Synchronised entries p q ≡ reaches WithExclusion entries p q
+pub reaches_same : (entries : List Entry) (p q : ℕ) → excludes_some (history_of (take p entries)) ≡ false
+    → reaches Synchronised entries p q ≡ reaches WithExclusion entries p q
 reaches_same entries p q h = ap (λ b. p == q || b) (after_same entries p q h)
 
 -- ---- the newest step with which the next one races
@@ -181,5 +184,6 @@ pub loose_none : (H : History) (o : Option Half) → IsLoose H o → o ≡ None 
 loose_none H o is e = subst (IsLoose H) e is
 
 -- one event more that generates no task that may exclude others
-pub none_more : (H : History) (v : Event) (a : Action) → a ≡ v.action → has_exclusive (items_in (Some a)) ≡ false → excludes_some H ≡ false → excludes_some (v ∷ H) ≡ false
+pub none_more : (H : History) (v : Event) (a : Action) → a ≡ v.action → has_exclusive (items_in (Some a)) ≡ false → excludes_some H ≡ false
+    → excludes_some (v ∷ H) ≡ false
 none_more H v a is none h = ap₂ (λ p q. p || q) (ap (λ b. has_exclusive (items_in (Some b))) (sym is) ∙ none) h

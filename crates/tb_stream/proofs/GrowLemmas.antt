@@ -32,7 +32,8 @@ use Rattle.tb_stream.proofs.SeenLemmas.{acted, id_at, legal_in_front, named, nex
 
 -- ---- marks
 
-module _ (r : Run) (n : ℕ) (lanes next : Lanes) (lane_kept : (p : ℕ) → p < n → next.lane p ≡ lanes.lane p) (bound_stays : (p : ℕ) → p < n → next.bound p ≡ lanes.bound p)
+module _ (r : Run) (n : ℕ) (lanes next : Lanes) (lane_kept : (p : ℕ) → p < n → next.lane p ≡ lanes.lane p)
+    (bound_stays : (p : ℕ) → p < n → next.bound p ≡ lanes.bound p)
     (rows more : List (Vec LaneBound Global)) (row_kept : (i : ℕ) → i ≤ length rows → row_in more i ≡ row_in rows i) (longer : length rows ≤ length more) (m : ℕ) (low : n ≤ m) where
   pub full_on : (k : Mark) → IsFull r n lanes rows k → IsFull r m next more k
   full_on k f = record {
@@ -55,7 +56,9 @@ module _ (r : Run) (n : ℕ) (lanes next : Lanes) (lane_kept : (p : ℕ) → p <
 
 -- ---- one row more
 
-module _ (r : Run) (n : ℕ) (lanes : Lanes) (old new : Clocks) (row_kept : (i : ℕ) → i ≤ length old.rows.items → row_in new.rows.items i ≡ row_in old.rows.items i) (longer : length old.rows.items ≤ length new.rows.items)
+module _ (r : Run) (n : ℕ) (lanes : Lanes) (old new : Clocks)
+    (row_kept : (i : ℕ) → i ≤ length old.rows.items → row_in new.rows.items i ≡ row_in old.rows.items i)
+    (longer : length old.rows.items ≤ length new.rows.items)
     (newest : new.newest ≡ old.newest) (origins : new.origins ≡ old.origins) (lasts : new.lasts ≡ old.lasts) (are : AreClocks r n lanes old) where
   on : (k : Mark) → IsFull r n lanes old.rows.items k → IsFull r n lanes new.rows.items k
   on = full_on r n lanes lanes (λ p l. refl) (λ p l. refl) old.rows.items new.rows.items row_kept longer n (omega arith)
@@ -86,7 +89,8 @@ module _ (r : Run) (n : ℕ) (lanes : Lanes) (old new : Clocks) (row_kept : (i :
 
 -- ---- one step more
 
-module _ (r : Run) (n : ℕ) (w : n < length r.entries) (lanes : Lanes) (old : Clocks) (are : AreClocks r n lanes old) (m : Mark) (placed : IsPlaced r n lanes old.rows.items m) where
+module _ (r : Run) (n : ℕ) (w : n < length r.entries) (lanes : Lanes) (old : Clocks) (are : AreClocks r n lanes old) (m : Mark)
+    (placed : IsPlaced r n lanes old.rows.items m) where
   abbrev rows : List (Vec LaneBound Global)
   rows = old.rows.items
 
@@ -202,7 +206,8 @@ module _ (r : Run) (n : ℕ) (w : n < length r.entries) (lanes : Lanes) (old : C
 
   module _ (more : List (Option Mark)) (P Q : Name → Option Mark → Type 0) (marks : List (Option Mark)) (of : AreOfTasks r n P marks) (k : Option Mark)
       (longer : length more ≡ length marks) (others : (i : ℕ) (t : Name) (x : Option Mark) → HasId (front r n) i t → slice_get more i ≡ Some x → Q t x) (child : (t : Name) → slice_get (generated v.action) 0 ≡ Some t → Q t k) where
-    of_by : (ts : List Name) → generated v.action ≡ ts → (ks : List (Option Mark)) → length ks ≡ length ts → ((x : Option Mark) (j : ℕ) → slice_get ks j ≡ Some x → x ≡ k) → AreOfTasks r (n + 1) Q (more ++ ks)
+    of_by : (ts : List Name) → generated v.action ≡ ts → (ks : List (Option Mark)) → length ks ≡ length ts
+        → ((x : Option Mark) (j : ℕ) → slice_get ks j ≡ Some x → x ≡ k) → AreOfTasks r (n + 1) Q (more ++ ks)
     of_by ts is ks same only = record {
       listed = length-append more ks ∙ ap₂ (λ a b. a + b) (longer ∙ of.listed) (same ∙ ap length (sym is)) ∙ sym (ap length names_more ∙ length-append (names_in (front r n)) (generated v.action));
       each = λ i t x h g. ⊎_elim
@@ -237,7 +242,8 @@ module _ (r : Run) (n : ℕ) (w : n < length r.entries) (lanes : Lanes) (old : C
         by (suc j) x e = absurd (no e)
 
   -- the newest steps, with the one at n
-  pub newest_set : (i : ℕ) (t : Name) (x : Option Mark) → HasId (front r n) i t → slice_get (newest_with m old.newest.items) i ≡ Some x → IsNewest r (n + 1) next rows t x
+  pub newest_set : (i : ℕ) (t : Name) (x : Option Mark) → HasId (front r n) i t → slice_get (newest_with m old.newest.items) i ≡ Some x
+      → IsNewest r (n + 1) next rows t x
   newest_set i t x h g =
       ⊎_elim
       (λ e.
@@ -262,7 +268,8 @@ module _ (r : Run) (n : ℕ) (w : n < length r.entries) (lanes : Lanes) (old : C
       by false = refl
 
   -- the newest steps of the lanes
-  lasts_by : (b : Bool) → nat_lt m.lane lanes.count ≡ b → (length (lasts_with m old.lasts.items) ≡ next.count) × ((k : ℕ) → k < next.count → slice_index_or (lasts_with m old.lasts.items) k 0 ≡ next.last k)
+  lasts_by : (b : Bool) → nat_lt m.lane lanes.count ≡ b
+      → (length (lasts_with m old.lasts.items) ≡ next.count) × ((k : ℕ) → k < next.count → slice_index_or (lasts_with m old.lasts.items) k 0 ≡ next.last k)
   lasts_by true e =
       let c : next.count ≡ lanes.count = ap (λ b. cond b lanes.count (suc m.lane)) e in
       let inside : m.lane < length old.lasts.items = omega (arith, are.lasts_listed, ltb-true m.lane lanes.count e) in
@@ -317,7 +324,9 @@ module _ (r : Run) (n : ℕ) (w : n < length r.entries) (lanes : Lanes) (old : C
       read_front (x ∷ xs) ys (suc i) h = read_front xs ys i (omega (arith, h))
 
   -- all clocks
-  module _ (new : Clocks) (same : new.rows ≡ old.rows) (lasts : new.lasts.items ≡ lasts_with m old.lasts.items) (newest : AreOfTasks r (n + 1) (IsNewest r (n + 1) next rows) new.newest.items) (origins : AreOfTasks r (n + 1) (IsMaker r (n + 1) next rows) new.origins.items) where
+  module _ (new : Clocks) (same : new.rows ≡ old.rows) (lasts : new.lasts.items ≡ lasts_with m old.lasts.items)
+      (newest : AreOfTasks r (n + 1) (IsNewest r (n + 1) next rows) new.newest.items)
+      (origins : AreOfTasks r (n + 1) (IsMaker r (n + 1) next rows) new.origins.items) where
     pub added : IsAdded r n next new m
     added = subst (λ (rs : Vec (Vec LaneBound Global) Global). IsAdded r n next (record { newest = new.newest; origins = new.origins; rows = rs; lasts = new.lasts }) m) (sym same) (record {
       clocks_are = record {
@@ -339,7 +348,8 @@ module _ (r : Run) (n : ℕ) (w : n < length r.entries) (lanes : Lanes) (old : C
   origin_kept i t x h g = maker_more i t h x (are.origins.each i t x h g)
 
   -- no child
-  pub added_alone : generated v.action ≡ [] → (new : Clocks) → new.rows ≡ old.rows → new.lasts.items ≡ lasts_with m old.lasts.items → new.newest.items ≡ newest_with m old.newest.items → new.origins.items ≡ old.origins.items → IsAdded r n next new m
+  pub added_alone : generated v.action ≡ [] → (new : Clocks) → new.rows ≡ old.rows → new.lasts.items ≡ lasts_with m old.lasts.items
+      → new.newest.items ≡ newest_with m old.newest.items → new.origins.items ≡ old.origins.items → IsAdded r n next new m
   added_alone none new same lasts newest origins =
       added new same lasts
       (subst (AreOfTasks r (n + 1) (IsNewest r (n + 1) next rows)) (sym newest)
@@ -348,7 +358,8 @@ module _ (r : Run) (n : ℕ) (w : n < length r.entries) (lanes : Lanes) (old : C
       (of_none old.origins.items (IsMaker r n lanes rows) (IsMaker r (n + 1) next rows) old.origins.items are.origins (Some m) refl origin_kept (λ t g. child_maker t g) none))
 
   -- with a child
-  pub added_child : (t : Name) → generated v.action ≡ t ∷ [] → (new : Clocks) → new.rows ≡ old.rows → new.lasts.items ≡ lasts_with m old.lasts.items → new.newest.items ≡ newest_with m old.newest.items ++ None ∷ [] → new.origins.items ≡ old.origins.items ++ Some m ∷ [] → IsAdded r n next new m
+  pub added_child : (t : Name) → generated v.action ≡ t ∷ [] → (new : Clocks) → new.rows ≡ old.rows → new.lasts.items ≡ lasts_with m old.lasts.items
+      → new.newest.items ≡ newest_with m old.newest.items ++ None ∷ [] → new.origins.items ≡ old.origins.items ++ Some m ∷ [] → IsAdded r n next new m
   added_child t is new same lasts newest origins =
       added new same lasts
       (subst (AreOfTasks r (n + 1) (IsNewest r (n + 1) next rows)) (sym newest)

@@ -163,7 +163,8 @@ module _ (exclusion : Bool) (H : History) (v : Event) (r : Run) (begins : Begins
     pub access_id : (lanes : Lanes) → IsAccess r p lanes a → HasId H a.mark.task (ev r.entries x i).task
     access_id lanes of = subst (λ G. HasId G a.mark.task (ev r.entries x i).task) same_front (id_at r p x a.mark.task (omega (arith, low)) (omega (arith, w)) of.task i)
 
-    pub raced : (lanes : Lanes) → IsAccess r p lanes a → (c : Conflict) → conflict_of v.action ≡ Some c → (t : Name) → HasId H a.mark.task t → (k : ℕ) → k ≡ suc (length (own v.task H)) → (b : Bool) → b ≡ not exclusion
+    pub raced : (lanes : Lanes) → IsAccess r p lanes a → (c : Conflict) → conflict_of v.action ≡ Some c → (t : Name) → HasId H a.mark.task t → (k : ℕ)
+        → k ≡ suc (length (own v.task H)) → (b : Bool) → b ≡ not exclusion
         → Some (record { earlier = record { task = t; k = a.k }; later = record { task = v.task; k = k }; conflict = c; apart = b }) ≡ newest_race (order_of exclusion) H v H
     raced lanes of c c_is t id k k_is b b_is =
         ap (λ z. Some (record { earlier = record { task = t; k = a.k }; later = record { task = v.task; k = k }; conflict = c; apart = z })) (b_is ∙ ap not (sym begins.exclusion_is))

@@ -30,7 +30,8 @@ use Rattle.tb_stream.proofs.ExclusionLemmas.{reaches_same, strict}
 
 -- nor do those of its beginning
 module _ (entries : List Entry) where
-  pub none_before : (m p : ℕ) → m ≤ length entries → p ≤ m → excludes_some (history_of (take m entries)) ≡ false → excludes_some (history_of (take p entries)) ≡ false
+  pub none_before : (m p : ℕ) → m ≤ length entries → p ≤ m → excludes_some (history_of (take m entries)) ≡ false
+      → excludes_some (history_of (take p entries)) ≡ false
   none_before m p w l h = by (cases_eq p m)
     where
       less : (k : ℕ) → k ≤ length entries → p < k → excludes_some (history_of (take k entries)) ≡ false → excludes_some (history_of (take p entries)) ≡ false
@@ -68,11 +69,12 @@ module _ (r : Run) (loose : r.exclusion ≡ false) (n : ℕ) (within : n ≤ len
     newest = are.newest;
   }
 
-  covered : (x : ℕ) (row : List ℕ) → ((j : ℕ) → j < length row → get_or row j 0 < n) → IsCovered WithExclusion r.entries x row → IsCovered (order r) r.entries x row
+  covered : (x : ℕ) (row : List ℕ) → ((j : ℕ) → j < length row → get_or row j 0 < n) → IsCovered WithExclusion r.entries x row
+      → IsCovered (order r) r.entries x row
   covered x row low h = (h.0, h.1, h.2, reach (get_or row h.0 0) x (omega (arith, low h.0 h.1)) ∙ h.3)
 
-  kept_rows : (i : ℕ) (writes loads : List ℕ) → kept.AreRows WithExclusion r.entries n i writes loads → kept.AreRows (order r) r.entries n i writes loads
-  kept_rows i writes loads are = record {
+  rows_covered : (i : ℕ) (writes loads : List ℕ) → kept.AreRows WithExclusion r.entries n i writes loads → kept.AreRows (order r) r.entries n i writes loads
+  rows_covered i writes loads are = record {
     writes_in = are.writes_in;
     loads_in = are.loads_in;
     writes_left = λ x k s t. covered x writes are.writes_in.low (are.writes_left x k s t);
@@ -85,22 +87,26 @@ module _ (r : Run) (loose : r.exclusion ≡ false) (n : ℕ) (within : n ≤ len
     accesses : (row : List Access) → AreAccesses (strict r) n lanes row → AreAccesses r n lanes row
     accesses row are j a g = let of = are j a g in record { mark = of.mark; task = of.task; number = of.number }
 
-    touched_same : (i : ℕ) (old new : Touched) → new.writes.items ≡ old.writes.items → new.loads.items ≡ old.loads.items → AreTouched (strict r) n lanes i old → AreTouched r n lanes i new
+    touched_same : (i : ℕ) (old new : Touched) → new.writes.items ≡ old.writes.items → new.loads.items ≡ old.loads.items
+        → AreTouched (strict r) n lanes i old → AreTouched r n lanes i new
     touched_same i old new writes loads are = record {
       rows = subst (λ xs. kept.AreRows (order r) r.entries n i (places xs) (places new.loads.items)) (sym writes)
-          (subst (λ xs. kept.AreRows (order r) r.entries n i (places old.writes.items) (places xs)) (sym loads) (kept_rows i (places old.writes.items) (places old.loads.items) are.rows));
+          (subst (λ xs. kept.AreRows (order r) r.entries n i (places old.writes.items) (places xs)) (sym loads) (rows_covered i (places old.writes.items) (places old.loads.items) are.rows));
       writes = subst (AreAccesses r n lanes) (sym writes) (accesses old.writes.items are.writes);
       loads = subst (AreAccesses r n lanes) (sym loads) (accesses old.loads.items are.loads);
     }
 
-    pub touched_so : (i : ℕ) (old new : Option Touched) → MatchOption old (new ≡ None) (λ v. IsSomeAnd new (λ w. (w.writes.items ≡ v.writes.items) × (w.loads.items ≡ v.loads.items))) → AreTouchedSo (strict r) n lanes i old → AreTouchedSo r n lanes i new
-    touched_so i None new m are = subst (AreTouchedSo r n lanes i) (sym m) (kept_rows i [] [] are)
+    pub touched_so : (i : ℕ) (old new : Option Touched)
+        → MatchOption old (new ≡ None) (λ v. IsSomeAnd new (λ w. (w.writes.items ≡ v.writes.items) × (w.loads.items ≡ v.loads.items)))
+        → AreTouchedSo (strict r) n lanes i old → AreTouchedSo r n lanes i new
+    touched_so i None new m are = subst (AreTouchedSo r n lanes i) (sym m) (rows_covered i [] [] are)
     touched_so i (Some v) None m are = absurd m
     touched_so i (Some v) (Some w) m are = touched_same i v w m.0 m.1 are
 
     -- ---- marks, with the rows of bounds that stand for the old ones
 
-    module _ (rows copied : List (Vec LaneBound Global)) (same : map (λ (v : Vec LaneBound Global). v.items) copied ≡ map (λ (v : Vec LaneBound Global). v.items) rows) where
+    module _ (rows copied : List (Vec LaneBound Global))
+        (same : map (λ (v : Vec LaneBound Global). v.items) copied ≡ map (λ (v : Vec LaneBound Global). v.items) rows) where
       row_same : (k : ℕ) → row_in copied k ≡ row_in rows k
       row_same k = ap (λ (xs : List (List LaneBound)). cond (k == 0) [] (get_or xs (k - 1) [])) same
 
@@ -124,13 +130,15 @@ module _ (r : Run) (loose : r.exclusion ≡ false) (n : ℕ) (within : n ≤ len
       maker_same t None is = is
       maker_same t (Some m) is = (full_same m is.0, is.1)
 
-      of_tasks : (P Q : Name → Option Mark → Type 0) → ((t : Name) (m : Option Mark) → P t m → Q t m) → (old new : List (Option Mark)) → new ≡ old → AreOfTasks (strict r) n P old → AreOfTasks r n Q new
+      of_tasks : (P Q : Name → Option Mark → Type 0) → ((t : Name) (m : Option Mark) → P t m → Q t m) → (old new : List (Option Mark)) → new ≡ old
+          → AreOfTasks (strict r) n P old → AreOfTasks r n Q new
       of_tasks P Q f old new e are = record {
         listed = ap length e ∙ are.listed;
         each = λ i t m h g. f t m (are.each i t m h (sym (ap (λ xs. slice_get xs i) e) ∙ g));
       }
 
-      pub clocks_same : (old new : Clocks) → old.rows.items ≡ rows → new.rows.items ≡ copied → new.newest.items ≡ old.newest.items → new.origins.items ≡ old.origins.items → new.lasts.items ≡ old.lasts.items → AreClocks (strict r) n lanes old → AreClocks r n lanes new
+      pub clocks_same : (old new : Clocks) → old.rows.items ≡ rows → new.rows.items ≡ copied → new.newest.items ≡ old.newest.items
+          → new.origins.items ≡ old.origins.items → new.lasts.items ≡ old.lasts.items → AreClocks (strict r) n lanes old → AreClocks r n lanes new
       clocks_same old new old_rows new_rows newest origins lasts are = record {
         within = are.within;
         are = lanes_same lanes are.are;
@@ -147,7 +155,8 @@ module _ (r : Run) (loose : r.exclusion ≡ false) (n : ℕ) (within : n ≤ len
       -- ---- rows of ends
 
       module _ (P : ℕ → Type 0) (low : (x : ℕ) → P x → x < n) where
-        ends_same : (old new : Vec End Global) → new.items ≡ old.items → AreRow WithExclusion r.entries P (ends_of old) → AreRow (order r) r.entries P (ends_of new)
+        ends_same : (old new : Vec End Global) → new.items ≡ old.items → AreRow WithExclusion r.entries P (ends_of old)
+            → AreRow (order r) r.entries P (ends_of new)
         ends_same old new e are = record {
           each = λ i l. subst P (sym (here i)) (are.each i (inside i l));
           all = λ x h. let f = are.all x h in (f.0, omega (arith, f.1, long), here f.0 ∙ f.2);
@@ -180,10 +189,13 @@ module _ (r : Run) (loose : r.exclusion ≡ false) (n : ℕ) (within : n ≤ len
           full = λ i x g. full_same x.mark (are.full i x (sym (ap (λ xs. slice_get xs i) e) ∙ g));
         }
 
-        row_so : (old new : Option (Vec End Global)) → MatchOption old (new ≡ None) (λ v. IsSomeAnd new (λ w. w.items ≡ v.items)) → IsRowOf (strict r) n lanes rows P old → IsRowOf r n lanes copied P new
+        row_so : (old new : Option (Vec End Global)) → MatchOption old (new ≡ None) (λ v. IsSomeAnd new (λ w. w.items ≡ v.items))
+            → IsRowOf (strict r) n lanes rows P old → IsRowOf r n lanes copied P new
         row_so None new m are = subst (IsRowOf r n lanes copied P) (sym m) are
         row_so (Some v) None m are = absurd m
         row_so (Some v) (Some w) m are = stored_same v w m are
 
-      pub rows_same : (old new : Named) → ((k : ℕ × ℕ × ℕ) → MatchOption (row_of old k) (row_of new k ≡ None) (λ v. IsSomeAnd (row_of new k) (λ w. w.items ≡ v.items))) → AreRows (strict r) n lanes rows (IsNoted r n) old → AreRows r n lanes copied (IsNoted r n) new
+      pub rows_same : (old new : Named)
+          → ((k : ℕ × ℕ × ℕ) → MatchOption (row_of old k) (row_of new k ≡ None) (λ v. IsSomeAnd (row_of new k) (λ w. w.items ≡ v.items)))
+          → AreRows (strict r) n lanes rows (IsNoted r n) old → AreRows r n lanes copied (IsNoted r n) new
       rows_same old new m are k = row_so (IsNoted r n k) (λ x h. h.0.0) (row_of old k) (row_of new k) (m k) (are k)

@@ -22,7 +22,8 @@ row_low r n None x h = h
 row_low r n (Some k) x h = h.0
 
 module _ (r : Run) (n : ℕ) (lanes : Lanes) (rows : List (Vec LaneBound Global)) (k : ℕ) where
-  pub merges_none : (j : Joined) → AreJoined r n lanes rows k j → (P : ℕ → Type 0) → ((x : ℕ) → x < n → P x → links_at (order r) r.entries n x ≡ true → ⊥) → Merges r n lanes rows k P j j
+  pub merges_none : (j : Joined) → AreJoined r n lanes rows k j → (P : ℕ → Type 0) → ((x : ℕ) → x < n → P x → links_at (order r) r.entries n x ≡ true → ⊥)
+      → Merges r n lanes rows k P j j
   merges_none j are P none = record {
     are = are;
     kept = λ q l t. t;
@@ -31,7 +32,8 @@ module _ (r : Run) (n : ℕ) (lanes : Lanes) (rows : List (Vec LaneBound Global)
   }
 
   -- one after the other
-  pub merges_both : (P Q S : ℕ → Type 0) (a b c : Joined) → Merges r n lanes rows k P a b → Merges r n lanes rows k Q b c → ((x : ℕ) → x < n → S x → links_at (order r) r.entries n x ≡ true → P x ⊎ Q x) → Merges r n lanes rows k S a c
+  pub merges_both : (P Q S : ℕ → Type 0) (a b c : Joined) → Merges r n lanes rows k P a b → Merges r n lanes rows k Q b c
+      → ((x : ℕ) → x < n → S x → links_at (order r) r.entries n x ≡ true → P x ⊎ Q x) → Merges r n lanes rows k S a c
   merges_both P Q S a b c f g which = record {
     are = g.are;
     kept = λ q l t. g.kept q l (f.kept q l t);
@@ -40,11 +42,14 @@ module _ (r : Run) (n : ℕ) (lanes : Lanes) (rows : List (Vec LaneBound Global)
   }
 
   -- the same ends, meant in other words
-  pub merges_so : (P Q : ℕ → Type 0) (a b : Joined) → ((x : ℕ) → x < n → Q x → links_at (order r) r.entries n x ≡ true → P x) → Merges r n lanes rows k P a b → Merges r n lanes rows k Q a b
+  pub merges_so : (P Q : ℕ → Type 0) (a b : Joined) → ((x : ℕ) → x < n → Q x → links_at (order r) r.entries n x ≡ true → P x) → Merges r n lanes rows k P a b
+      → Merges r n lanes rows k Q a b
   merges_so P Q a b so f = record { are = f.are; kept = f.kept; told = λ x l q h. f.told x l (so x l q h) h; same = f.same }
 
   -- with ends which each row has
-  pub merges_own : (P Q : ℕ → Type 0) (a b : Joined) → ((x : ℕ) → x < n → Q x → links_at (order r) r.entries n x ≡ true → P x ⊎ ((j : Joined) → IsTold r n lanes k j x)) → Merges r n lanes rows k P a b → Merges r n lanes rows k Q a b
+  pub merges_own : (P Q : ℕ → Type 0) (a b : Joined)
+      → ((x : ℕ) → x < n → Q x → links_at (order r) r.entries n x ≡ true → P x ⊎ ((j : Joined) → IsTold r n lanes k j x)) → Merges r n lanes rows k P a b
+      → Merges r n lanes rows k Q a b
   merges_own P Q a b so f = record { are = f.are; kept = f.kept; told = λ x l q h. ⊎_elim (λ p. f.told x l p h) (λ t. t b) (so x l q h); same = f.same }
 
   -- ---- along a row, from its newest end on
@@ -84,7 +89,8 @@ module _ (r : Run) (n : ℕ) (lanes : Lanes) (rows : List (Vec LaneBound Global)
       stored_end = (stored.full i e here, subst (λ y. is_end_at r.entries y ≡ true) (end_is i e here) (low _ (stored.are.each i within)).1)
 
       -- what is further back is before where the walk begins
-      pub later_cut : (from : ℕ) → ((x : ℕ) → IsEnd r.entries n x → links_at (order r) r.entries n x ≡ true → from ≤ x) → e.mark.at < from → (a b : Joined) → Merges r n lanes rows k (Later (suc i)) a b → Merges r n lanes rows k P a b
+      pub later_cut : (from : ℕ) → ((x : ℕ) → IsEnd r.entries n x → links_at (order r) r.entries n x ≡ true → from ≤ x) → e.mark.at < from → (a b : Joined)
+          → Merges r n lanes rows k (Later (suc i)) a b → Merges r n lanes rows k P a b
       later_cut from asked early a b f = merges_so (Later (suc i)) P a b
           (λ x l p h.
           let j = stored.are.all x p in
@@ -103,7 +109,8 @@ module _ (r : Run) (n : ℕ) (lanes : Lanes) (rows : List (Vec LaneBound Global)
                   (cases_eq j i)
 
       -- it isn't linked
-      pub later_passed : links_at (order r) r.entries n e.mark.at ≡ false → (a b : Joined) → Merges r n lanes rows k (Later (suc i)) a b → Merges r n lanes rows k (Later i) a b
+      pub later_passed : links_at (order r) r.entries n e.mark.at ≡ false → (a b : Joined) → Merges r n lanes rows k (Later (suc i)) a b
+          → Merges r n lanes rows k (Later i) a b
       later_passed none a b f = merges_so (Later (suc i)) (Later i) a b
           (λ x l p h. (
             p.0,
@@ -119,7 +126,8 @@ module _ (r : Run) (n : ℕ) (lanes : Lanes) (rows : List (Vec LaneBound Global)
           )) f
 
       -- it is listed, and so is what is skipped from it
-      pub later_known : (b : Joined) → AreJoined r n lanes rows k b → IsTold r n lanes k b e.mark.at → ((x : ℕ) → x < n → Later (suc i) x → links_at (order r) r.entries n x ≡ true → IsTold r n lanes k b x)
+      pub later_known : (b : Joined) → AreJoined r n lanes rows k b → IsTold r n lanes k b e.mark.at
+          → ((x : ℕ) → x < n → Later (suc i) x → links_at (order r) r.entries n x ≡ true → IsTold r n lanes k b x)
           → (x : ℕ) → x < n → Later e.skip x → links_at (order r) r.entries n x ≡ true → IsTold r n lanes k b x
       later_known b are told rest x l p h =
           subst (λ y. IsTold r n lanes k b y) p.1.3
@@ -129,11 +137,13 @@ module _ (r : Run) (n : ℕ) (lanes : Lanes) (rows : List (Vec LaneBound Global)
           (λ j m t q. rest (end_at (ends_of ends) j) (low _ (stored.are.each j t)).0 (stored.are.each j t, (j, omega (arith, m), omega (arith, t, count), refl)) q)
           p.1.0 (omega (arith, skip_is i e here, p.1.1)) (omega (arith, p.1.2, count)) (subst (λ y. links_at (order r) r.entries n y ≡ true) (sym p.1.3) h))
 
-      pub later_skipped : (a b : Joined) → Merges r n lanes rows k (Later (suc i)) a b → IsTold r n lanes k b e.mark.at → Merges r n lanes rows k (Later e.skip) a b
+      pub later_skipped : (a b : Joined) → Merges r n lanes rows k (Later (suc i)) a b → IsTold r n lanes k b e.mark.at
+          → Merges r n lanes rows k (Later e.skip) a b
       later_skipped a b f told = record { are = f.are; kept = f.kept; told = later_known b f.are told f.told; same = f.same }
 
       -- it is joined
-      module _ (clocks : Clocks) (are : AreClocks r n lanes clocks) (w : n < length r.entries) (link : links_at (order r) r.entries n e.mark.at ≡ true) (a b c : Joined) (f : Merges r n lanes rows k (Later (suc i)) a b)
+      module _ (clocks : Clocks) (are : AreClocks r n lanes clocks) (w : n < length r.entries) (link : links_at (order r) r.entries n e.mark.at ≡ true)
+          (a b c : Joined) (f : Merges r n lanes rows k (Later (suc i)) a b)
           (rising : AreRising c.rows.items) (adds : Adds (order r) r.entries r.tasks lanes k n e.mark.at (bound_among b.rows.items) (bound_among c.rows.items)) (better : (m : Mark) → c.end ≡ Some m → (m ≡ e.mark) ⊎ (b.end ≡ Some m)) (some : c.end ≡ None → ⊥) where
         full : IsFull r n lanes rows e.mark
         full = stored.full i e here

@@ -23,7 +23,8 @@ only_none : (i : ℕ) (m : Option Mark) → slice_get (None ∷ []) i ≡ Some m
 only_none zero m e = sym (the_same None m e)
 only_none (suc i) m e = absurd (let no_some : ◌≡◌ {A = Option (Option Mark)} None (Some m) = e in cc)
 
-module _ (r : Run) (clocks : Clocks) (newest : clocks.newest.items ≡ None ∷ []) (origins : clocks.origins.items ≡ None ∷ []) (lasts : clocks.lasts.items ≡ []) where
+module _ (r : Run) (clocks : Clocks) (newest : clocks.newest.items ≡ None ∷ []) (origins : clocks.origins.items ≡ None ∷ [])
+    (lasts : clocks.lasts.items ≡ []) where
   newest_so : (t : Name) (m : Option Mark) → m ≡ None → IsNewest r 0 no_lanes clocks.rows.items t m
   newest_so t m e = subst (IsNewest r 0 no_lanes clocks.rows.items t) (sym e) (λ x l. absurd (omega (arith, l)))
 
@@ -50,7 +51,9 @@ module _ (r : Run) (clocks : Clocks) (newest : clocks.newest.items ≡ None ∷ 
 no_row : (r : Run) (lanes : Lanes) (rows : List (Vec LaneBound Global)) (k : Key) → IsRowOf r 0 lanes rows (IsNoted r 0 k) None
 no_row r lanes rows k x h = omega (arith, h.0.0)
 
-pub half_none : (exclusion : Bool) (h : Half) → h.order.exclusion ≡ exclusion → h.order.clocks.newest.items ≡ None ∷ [] → h.order.clocks.origins.items ≡ None ∷ [] → h.order.clocks.lasts.items ≡ [] → h.order.ends.items ≡ [] → h.order.rows.entries ≡ [] → h.kept.entries ≡ [] → IsHalf exclusion [] h
+pub half_none : (exclusion : Bool) (h : Half) → h.order.exclusion ≡ exclusion → h.order.clocks.newest.items ≡ None ∷ []
+    → h.order.clocks.origins.items ≡ None ∷ [] → h.order.clocks.lasts.items ≡ [] → h.order.ends.items ≡ [] → h.order.rows.entries ≡ [] → h.kept.entries ≡ []
+    → IsHalf exclusion [] h
 half_none exclusion h same newest origins lasts ends rows kept r begins = record {
   lanes = no_lanes;
   past = record {

@@ -31,14 +31,17 @@ get_put (x ∷ xs) y (suc j) e g = get_put xs y j e g
 -- ---- one row
 
 module _ (r : Run) (m : ℕ) (lanes : Lanes) (rows : List (Vec LaneBound Global)) where
-  pub stored_so : (P Q : ℕ → Type 0) → ((x : ℕ) → P x → Q x) → ((x : ℕ) → Q x → P x) → (ends : Vec End Global) → AreStored r m lanes rows P ends → AreStored r m lanes rows Q ends
+  pub stored_so : (P Q : ℕ → Type 0) → ((x : ℕ) → P x → Q x) → ((x : ℕ) → Q x → P x) → (ends : Vec End Global) → AreStored r m lanes rows P ends
+      → AreStored r m lanes rows Q ends
   stored_so P Q there back ends a = record { are = row_same (order r) r.entries P Q (ends_of ends) there back a.are; full = a.full }
 
-  row_so : (P Q : ℕ → Type 0) → ((x : ℕ) → P x → Q x) → ((x : ℕ) → Q x → P x) → (o : Option (Vec End Global)) → IsRowOf r m lanes rows P o → IsRowOf r m lanes rows Q o
+  row_so : (P Q : ℕ → Type 0) → ((x : ℕ) → P x → Q x) → ((x : ℕ) → Q x → P x) → (o : Option (Vec End Global)) → IsRowOf r m lanes rows P o
+      → IsRowOf r m lanes rows Q o
   row_so P Q there back None none = λ x q. none x (back x q)
   row_so P Q there back (Some ends) a = stored_so P Q there back ends a
 
-  pub rows_so : (P Q : Key → ℕ → Type 0) (named : Named) → ((k : Key) (x : ℕ) → P k x → Q k x) → ((k : Key) (x : ℕ) → Q k x → P k x) → AreRows r m lanes rows P named → AreRows r m lanes rows Q named
+  pub rows_so : (P Q : Key → ℕ → Type 0) (named : Named) → ((k : Key) (x : ℕ) → P k x → Q k x) → ((k : Key) (x : ℕ) → Q k x → P k x)
+      → AreRows r m lanes rows P named → AreRows r m lanes rows Q named
   rows_so P Q named there back are k = row_so (P k) (Q k) (there k) (back k) (row_of named k) (are k)
 
   -- no ends
@@ -52,7 +55,9 @@ module _ (r : Run) (m : ℕ) (lanes : Lanes) (rows : List (Vec LaneBound Global)
       no i e h = cc
 
   -- a row is written
-  pub rows_written : (P : Key → ℕ → Type 0) (n : ℕ) (key : Key) (old new : Named) (v : Vec End Global) → ((u : Key) → row_of new u ≡ cond (same_key key u) (Some v) (row_of old u)) → AreStored r m lanes rows (λ x. P key x ⊎ (x ≡ n)) v → AreRows r m lanes rows P old
+  pub rows_written : (P : Key → ℕ → Type 0) (n : ℕ) (key : Key) (old new : Named) (v : Vec End Global)
+      → ((u : Key) → row_of new u ≡ cond (same_key key u) (Some v) (row_of old u)) → AreStored r m lanes rows (λ x. P key x ⊎ (x ≡ n)) v
+      → AreRows r m lanes rows P old
       → AreRows r m lanes rows (WithOne P key n) new
   rows_written P n key old new v writes stored are k = by (same_key key k) refl
     where
@@ -66,12 +71,14 @@ module _ (r : Run) (m : ℕ) (lanes : Lanes) (rows : List (Vec LaneBound Global)
           (row_so (P k) (WithOne P key n k) (λ x h. inl h) (λ x h. ⊎_elim (λ a. a) (λ a. absurd (both_ways (same_key key k) e (subst (λ j. same_key j k ≡ true) a.1 (key_refl k)))) h) (row_of old k) (are k))
 
 -- where the map was written as it was
-pub moved_writes : (key : Key) (old mid new : Named) (v : Vec End Global) → mid ≡ old → ((u : Key) → row_of new u ≡ cond (same_key key u) (Some v) (row_of mid u)) → (u : Key) → row_of new u ≡ cond (same_key key u) (Some v) (row_of old u)
+pub moved_writes : (key : Key) (old mid new : Named) (v : Vec End Global) → mid ≡ old
+    → ((u : Key) → row_of new u ≡ cond (same_key key u) (Some v) (row_of mid u)) → (u : Key) → row_of new u ≡ cond (same_key key u) (Some v) (row_of old u)
 moved_writes key old mid new v same writes u = writes u ∙ ap (λ (m : Named). cond (same_key key u) (Some v) (row_of m u)) same
 
 -- ---- one end more
 
-module _ (r : Run) (n : ℕ) (lanes : Lanes) (clocks : Clocks) (m : Mark) (added : IsAdded r n lanes clocks m) (P : ℕ → Type 0) (low : (x : ℕ) → P x → x ≤ n) (old : Vec End Global) (stored : AreStored r (n + 1) lanes clocks.rows.items P old) where
+module _ (r : Run) (n : ℕ) (lanes : Lanes) (clocks : Clocks) (m : Mark) (added : IsAdded r n lanes clocks m) (P : ℕ → Type 0) (low : (x : ℕ) → P x → x ≤ n)
+    (old : Vec End Global) (stored : AreStored r (n + 1) lanes clocks.rows.items P old) where
   count : length (ends_of old).places.items ≡ length old.items
   count = length-map old.items (λ e. e.mark.at)
 
@@ -82,7 +89,8 @@ module _ (r : Run) (n : ℕ) (lanes : Lanes) (clocks : Clocks) (m : Mark) (added
   newest i l = low _ (stored.are.each i l)
 
   -- what is skipped from one that was passed is passed
-  pub passed : (i : ℕ) (e : End) → slice_get old.items i ≡ Some e → i < length old.items → reaches (order r) r.entries n e.mark.at ≡ true → ((j : ℕ) → i < j → j < length old.items → reaches (order r) r.entries n (end_at (ends_of old) j) ≡ true)
+  pub passed : (i : ℕ) (e : End) → slice_get old.items i ≡ Some e → i < length old.items → reaches (order r) r.entries n e.mark.at ≡ true
+      → ((j : ℕ) → i < j → j < length old.items → reaches (order r) r.entries n (end_at (ends_of old) j) ≡ true)
       → (j : ℕ) → e.skip ≤ j → j < length old.items → reaches (order r) r.entries n (end_at (ends_of old) j) ≡ true
   passed i e here l top rest j f h =
       passed_more (order r) r.entries n inside (ends_of old) stored.are.tied newest i (omega (arith, l, count))
@@ -132,7 +140,8 @@ module _ (r : Run) (n g : ℕ) where
     next_back k x (inl a) = inl (inl a)
     next_back k x (inr a) = ⊎_elim (λ b. inl (inr (a.0, inl b))) (λ b. by b.0 b.1 b.2 b.3 b.4 (cases_eq b.0 i)) a.1
       where
-        by : (c : ℕ) (y : Item) → c < i + 1 → slice_get (items_at r.entries n) c ≡ Some y → k ≡ item_key g y.kind y.place → (c ≡ i) ⊎ (c ≢ i) → WithOne (SoFar r n g i) (item_key g j.kind j.place) n k x
+        by : (c : ℕ) (y : Item) → c < i + 1 → slice_get (items_at r.entries n) c ≡ Some y → k ≡ item_key g y.kind y.place → (c ≡ i) ⊎ (c ≢ i)
+            → WithOne (SoFar r n g i) (item_key g j.kind j.place) n k x
         by c y l h e (inl s) =
             let same : y ≡ j = the_same y j (sym h ∙ (ap (slice_get (items_at r.entries n)) s ∙ got)) in
             inr (a.0, e ∙ ap (λ (z : Item). item_key g z.kind z.place) same)

@@ -24,7 +24,8 @@ use Rattle.tb_stream.proofs.ListLemmas.{the_same}
 use Rattle.tb_stream.proofs.NoteLemmas.{rows_so, step_back, step_there, stored_so}
 use Rattle.tb_stream.proofs.SeenLemmas.{id_whole}
 
-module _ (r : Run) (n : ℕ) (lanes : Lanes) (o : Order) (past : IsOrder r n lanes o) (w : n < length r.entries) (m : Mark) (placed : IsPlaced r n lanes o.clocks.rows.items m) where
+module _ (r : Run) (n : ℕ) (lanes : Lanes) (o : Order) (past : IsOrder r n lanes o) (w : n < length r.entries) (m : Mark)
+    (placed : IsPlaced r n lanes o.clocks.rows.items m) where
   abbrev rows : List (Vec LaneBound Global)
   rows = o.clocks.rows.items
 
@@ -54,7 +55,8 @@ module _ (r : Run) (n : ℕ) (lanes : Lanes) (o : Order) (old : OldEnds r n lane
   }
 
   -- it is one, and was noted
-  pub order_over : is_end_at r.entries n ≡ true → (new : Order) → new.clocks ≡ o.clocks → new.exclusion ≡ o.exclusion → AreStored r (n + 1) lanes o.clocks.rows.items (λ x. IsEnd r.entries n x ⊎ (x ≡ n)) new.ends
+  pub order_over : is_end_at r.entries n ≡ true → (new : Order) → new.clocks ≡ o.clocks → new.exclusion ≡ o.exclusion
+      → AreStored r (n + 1) lanes o.clocks.rows.items (λ x. IsEnd r.entries n x ⊎ (x ≡ n)) new.ends
       → AreRows r (n + 1) lanes o.clocks.rows.items (IsNoted r (n + 1)) new.rows.entries → IsOrder r (n + 1) lanes new
   order_over over new same exclusion ends rows = record {
     exclusion = exclusion ∙ old.exclusion;

@@ -30,7 +30,8 @@ module _ (r : Run) (n : ℕ) (lanes : Lanes) (clocks : Clocks) (are : AreClocks 
     newest_there h = omega (arith, h, are.newest.listed, index_within (names_in (front r n)) task _ (id_at r n n task (omega arith) are.within of w))
 
     -- as the newest step of its task
-    pub begun_some : (b : Mark) → slice_get clocks.newest.items task ≡ Some (Some b) → IsBegun r n lanes rows (record { at = n; lane = b.lane; row = b.row; task = task })
+    pub begun_some : (b : Mark) → slice_get clocks.newest.items task ≡ Some (Some b)
+        → IsBegun r n lanes rows (record { at = n; lane = b.lane; row = b.row; task = task })
     begun_some b is =
         let newest = are.newest.each task _ (Some b) (id_at r n n task (omega arith) are.within of w) is in
         let full = newest.0 in
@@ -45,7 +46,8 @@ module _ (r : Run) (n : ℕ) (lanes : Lanes) (clocks : Clocks) (are : AreClocks 
         }
 
     -- as one with none in front
-    pub begun_none : slice_get clocks.newest.items task ≡ Some None → (k : ℕ) → k ≡ length clocks.lasts.items → IsBegun r n lanes rows (record { at = n; lane = k; row = 0; task = task })
+    pub begun_none : slice_get clocks.newest.items task ≡ Some None → (k : ℕ) → k ≡ length clocks.lasts.items
+        → IsBegun r n lanes rows (record { at = n; lane = k; row = 0; task = task })
     begun_none is k new =
         let none = step_none r n w (are.newest.each task _ None (id_at r n n task (omega arith) are.within of w) is) in
         let fresh : k ≡ lanes.count = new ∙ are.lasts_listed in record {
@@ -59,7 +61,9 @@ module _ (r : Run) (n : ℕ) (lanes : Lanes) (clocks : Clocks) (are : AreClocks 
 
   -- ---- in its own lane
 
-  pub placed_by : (m : Mark) → IsBegun r n lanes rows m → IsComplete r n lanes rows m → (j : ℕ) → GoesOn (order r) r.entries r.tasks lanes (row_of rows m) m.lane n j → IsPlaced r n lanes rows (record { at = m.at; lane = j; row = m.row; task = m.task })
+  pub placed_by : (m : Mark) → IsBegun r n lanes rows m → IsComplete r n lanes rows m → (j : ℕ)
+      → GoesOn (order r) r.entries r.tasks lanes (row_of rows m) m.lane n j
+      → IsPlaced r n lanes rows (record { at = m.at; lane = j; row = m.row; task = m.task })
   placed_by m begun ends j goes =
       let s = stands_in (order r) r.entries r.tasks r.by_task n w lanes are.are (row_of rows m) m.lane j begun.lane begun.sound ends (none_shared r.exclusion r.entries r.tasks lanes (row_of rows m) m.lane n) goes in record {
         next = record { at = begun.next.at; within = w; task = begun.next.task };
@@ -71,7 +75,8 @@ module _ (r : Run) (n : ℕ) (lanes : Lanes) (clocks : Clocks) (are : AreClocks 
       }
 
   -- or in that of an end
-  pub goes_on : (row : ℕ → ℕ) (k j : ℕ) (end : Mark) → IsMark n lanes end → is_end_at r.entries end.at ≡ true → is_told (order r) r.entries r.tasks lanes row k n end.at ≡ true
+  pub goes_on : (row : ℕ → ℕ) (k j : ℕ) (end : Mark) → IsMark n lanes end → is_end_at r.entries end.at ≡ true
+      → is_told (order r) r.entries r.tasks lanes row k n end.at ≡ true
       → (j ≡ k) ⊎ ((k ≡ length clocks.lasts.items) × (j ≡ end.lane) × (end.at ≡ slice_index_or clocks.lasts.items end.lane 0)) → IsLane r.entries lanes k n → GoesOn (order r) r.entries r.tasks lanes row k n j
   goes_on row k j end mark over told (inl e) lane = inl e
   goes_on row k j end mark over told (inr h) lane =
@@ -84,7 +89,8 @@ module _ (r : Run) (n : ℕ) (lanes : Lanes) (clocks : Clocks) (are : AreClocks 
       )
 
   -- with the row that was made of what was joined
-  module _ (m end : Mark) (row : Vec LaneBound Global) (going : IsGoing r n lanes rows m end row) (new : List (Vec LaneBound Global)) (more : new ≡ rows ++ row ∷ []) (number : ℕ) (len : number ≡ length new) (j : ℕ)
+  module _ (m end : Mark) (row : Vec LaneBound Global) (going : IsGoing r n lanes rows m end row) (new : List (Vec LaneBound Global))
+      (more : new ≡ rows ++ row ∷ []) (number : ℕ) (len : number ≡ length new) (j : ℕ)
       (choice : (j ≡ m.lane) ⊎ ((m.lane ≡ length clocks.lasts.items) × (j ≡ end.lane) × (end.at ≡ slice_index_or clocks.lasts.items end.lane 0))) where
     pub placed_going : IsPlaced r n lanes new (record { at = m.at; lane = j; row = number; task = m.task })
     placed_going =
@@ -100,8 +106,10 @@ module _ (r : Run) (n : ℕ) (lanes : Lanes) (clocks : Clocks) (are : AreClocks 
         }
 
 -- an end that is stored
-module _ (r : Run) (n : ℕ) (lanes : Lanes) (rows : List (Vec LaneBound Global)) (P : ℕ → Type 0) (ends : Vec End Global) (stored : AreStored r n lanes rows P ends) (low : (x : ℕ) → P x → IsEnd r.entries n x) where
-  pub stored_end : (i : ℕ) (e : End) → slice_get ends.items i ≡ Some e → i < length ends.items → IsFull r n lanes rows e.mark × (is_end_at r.entries e.mark.at ≡ true)
+module _ (r : Run) (n : ℕ) (lanes : Lanes) (rows : List (Vec LaneBound Global)) (P : ℕ → Type 0) (ends : Vec End Global)
+    (stored : AreStored r n lanes rows P ends) (low : (x : ℕ) → P x → IsEnd r.entries n x) where
+  pub stored_end : (i : ℕ) (e : End) → slice_get ends.items i ≡ Some e → i < length ends.items
+      → IsFull r n lanes rows e.mark × (is_end_at r.entries e.mark.at ≡ true)
   stored_end i e g l =
       let at = map_read (λ (x : End). x.mark.at) ends.items i e 0 g in
       let long = length-map ends.items (λ e. e.mark.at) in

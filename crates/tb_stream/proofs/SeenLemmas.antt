@@ -89,7 +89,8 @@ module _ (r : Run) where
   -- ---- who generated a task
 
   -- nobody did
-  pub maker_none : (n p : ℕ) (w : p < length r.entries) → p ≤ n → n ≤ length r.entries → list_any (spawns (ev r.entries p w).task) (front r n) ≡ false → origin r.tasks p ≡ 0
+  pub maker_none : (n p : ℕ) (w : p < length r.entries) → p ≤ n → n ≤ length r.entries → list_any (spawns (ev r.entries p w).task) (front r n) ≡ false
+      → origin r.tasks p ≡ 0
   maker_none n p w l k none =
       ⊎_elim (λ z. z.0)
       (λ u.
@@ -97,17 +98,20 @@ module _ (r : Run) where
       absurd (both_ways _ none (place_any r.entries (spawns (ev r.entries p w).task) n u.0 (omega (arith, u.2, l)) k i (sym (both_is Synchronised r.entries p u.0 w i generates) ∙ u.3))))
       (r.by_task.origins p w)
 
-  once_by : (t : Name) (a b : ℕ) (i : a < length r.entries) (j : b < length r.entries) → spawns t (ev r.entries a i) ≡ true → spawns t (ev r.entries b j) ≡ true → a < b → ⊥
+  once_by : (t : Name) (a b : ℕ) (i : a < length r.entries) (j : b < length r.entries) → spawns t (ev r.entries a i) ≡ true
+      → spawns t (ev r.entries b j) ≡ true → a < b → ⊥
   once_by t a b i j f g l =
       let legal = legal_here r.entries r.legal b j in
       both_ways _ (not_again r.legal.cells (front r b) legal.0 (ev r.entries b j) legal.1 t (spawned_by t (front r b) (place_any r.entries (spawns t) b a l (omega (arith, j)) i f))) g
 
   -- nobody else did
-  pub maker_once : (t : Name) (a b : ℕ) (i : a < length r.entries) (j : b < length r.entries) → spawns t (ev r.entries a i) ≡ true → spawns t (ev r.entries b j) ≡ true → a ≡ b
+  pub maker_once : (t : Name) (a b : ℕ) (i : a < length r.entries) (j : b < length r.entries) → spawns t (ev r.entries a i) ≡ true
+      → spawns t (ev r.entries b j) ≡ true → a ≡ b
   maker_once t a b i j f g =
       ⊎_elim (λ e. e) (λ h. ⊎_elim (λ l. absurd (once_by t a b i j f g l)) (λ l. absurd (once_by t b a j i g f l)) h) (cases_order a b)
 
-  pub maker_is : (p a : ℕ) (w : p < length r.entries) (i : a < length r.entries) → spawns (ev r.entries p w).task (ev r.entries a i) ≡ true → origin r.tasks p ≡ suc a
+  pub maker_is : (p a : ℕ) (w : p < length r.entries) (i : a < length r.entries) → spawns (ev r.entries p w).task (ev r.entries a i) ≡ true
+      → origin r.tasks p ≡ suc a
   maker_is p a w i made =
       ⊎_elim (λ z. absurd (by z.1 (cases_order a p)))
       (λ u.
@@ -161,7 +165,8 @@ module _ (r : Run) where
             let j : c < length r.entries = omega (arith, m, w) in
             (omega (arith, is, newest b l (touching b i own), last c m (sym (own_at c j) ∙ mine)), same)
 
-    pub step_none : ((x : ℕ) → x < n → passes_at (is_of t) r x ≡ false) → (previous r.tasks n ≡ 0) ⊎ ((b : ℕ) × (previous r.tasks n ≡ suc b) × (number r.tasks b ≢ number r.tasks n))
+    pub step_none : ((x : ℕ) → x < n → passes_at (is_of t) r x ≡ false)
+        → (previous r.tasks n ≡ 0) ⊎ ((b : ℕ) × (previous r.tasks n ≡ suc b) × (number r.tasks b ≢ number r.tasks n))
     step_none none = by (r.by_task.behind n w)
       where
         by : Behind r.entries r.tasks n → (previous r.tasks n ≡ 0) ⊎ ((b : ℕ) × (previous r.tasks n ≡ suc b) × (number r.tasks b ≢ number r.tasks n))
@@ -192,7 +197,8 @@ module _ (r : Run) where
         (maker.0, maker_is p m.at w i (sym (passes_is (spawns (ev r.entries p w).task) m.at i) ∙ maker.1))
 
     -- as it is found
-    pub origin_found : (o found : Option Mark) → slice_get clocks.origins.items t ≡ Some o → ((m : Mark) → o ≡ Some m → m.at < p → found ≡ o) → (o ≡ None → found ≡ None) → IsOrigin r n lanes rows found (origin r.tasks p)
+    pub origin_found : (o found : Option Mark) → slice_get clocks.origins.items t ≡ Some o → ((m : Mark) → o ≡ Some m → m.at < p → found ≡ o)
+        → (o ≡ None → found ≡ None) → IsOrigin r n lanes rows found (origin r.tasks p)
     origin_found None found is same none = subst (λ x. IsOrigin r n lanes rows x (origin r.tasks p)) (sym (none refl)) (origin_none is)
     origin_found (Some m) found is same none =
         let it = origin_some m is in

@@ -75,7 +75,8 @@ module _ (r : Run) (lanes next : Lanes) (n m : ℕ) (low : n ≤ m) (lane_kept :
   pub accesses_on : (row : List Access) → AreAccesses r n lanes row → AreAccesses r m next row
   accesses_on row are j a g = access_on a (are j a g)
 
-pub marks_on : (r : Run) (lanes next : Lanes) (n : ℕ) → ((p : ℕ) → p < n → next.lane p ≡ lanes.lane p) → (row : List Access) → AreAccesses r n lanes row → (j : ℕ) (a : Access) → slice_get row j ≡ Some a → IsMark (n + 1) next a.mark
+pub marks_on : (r : Run) (lanes next : Lanes) (n : ℕ) → ((p : ℕ) → p < n → next.lane p ≡ lanes.lane p) → (row : List Access) → AreAccesses r n lanes row
+    → (j : ℕ) (a : Access) → slice_get row j ≡ Some a → IsMark (n + 1) next a.mark
 marks_on r lanes next n lane_kept row are j a g = (access_on r lanes next n (n + 1) (omega arith) lane_kept a (are j a g)).mark
 
 pub added_inside : (r : Run) (n : ℕ) (lanes : Lanes) (clocks : Clocks) (m : Mark) → IsAdded r n lanes clocks m → n < length r.entries
@@ -93,7 +94,8 @@ module _ (r : Run) (m : ℕ) (lanes : Lanes) where
 
 -- ---- what has one number
 
-module _ (r : Run) (n i : ℕ) (w : n < length r.entries) (lanes next : Lanes) (lane_kept : (p : ℕ) → p < n → next.lane p ≡ lanes.lane p) (load : Bool) (told : IsTold r n i load) (t : Touched) (are : AreTouched r n lanes i t)
+module _ (r : Run) (n i : ℕ) (w : n < length r.entries) (lanes next : Lanes) (lane_kept : (p : ℕ) → p < n → next.lane p ≡ lanes.lane p) (load : Bool)
+    (told : IsTold r n i load) (t : Touched) (are : AreTouched r n lanes i t)
     (writes loads : ℕ) (write : IsCut (order r) r.entries n (places t.writes.items) writes) (read : IsCut (order r) r.entries n (places t.loads.items) loads) where
   abbrev x : Entry
   x = at Synchronised r.entries n w
@@ -120,7 +122,8 @@ module _ (r : Run) (n i : ℕ) (w : n < length r.entries) (lanes next : Lanes) (
     access = λ a g. last_access r n lanes t.writes.items writes a are.writes g;
   }
 
-  pub found_write : load ≡ false → (o : Option Access) → IsLarger (behind (last_in t.writes.items writes)) (behind (last_in t.loads.items loads)) (behind o) → (o ≡ last_in t.writes.items writes) ⊎ (o ≡ last_in t.loads.items loads) → IsFound r n lanes o
+  pub found_write : load ≡ false → (o : Option Access) → IsLarger (behind (last_in t.writes.items writes)) (behind (last_in t.loads.items loads)) (behind o)
+      → (o ≡ last_in t.writes.items writes) ⊎ (o ≡ last_in t.loads.items loads) → IsFound r n lanes o
   found_write e o larger either = record {
     newest = write_newest (order r) r.entries n w x here i slot (places t.writes.items) (places t.loads.items) are.rows writes loads write read (loading ∙ e) (behind o)
         (subst (λ m. IsLarger m (newest_of (places t.loads.items) loads) (behind o)) (last_named t.writes.items writes few_writes)
@@ -144,7 +147,8 @@ module _ (r : Run) (n i : ℕ) (w : n < length r.entries) (lanes next : Lanes) (
       loads = subst (AreAccesses r (n + 1) next) (sym more) (accesses_put r (n + 1) next loads t.loads.items a (on t.loads.items are.loads) of);
     }
 
-    pub kept_write : load ≡ false → new.writes.items ≡ take writes t.writes.items ++ a ∷ [] → new.loads.items ≡ take loads t.loads.items → AreTouched r (n + 1) next i new
+    pub kept_write : load ≡ false → new.writes.items ≡ take writes t.writes.items ++ a ∷ [] → new.loads.items ≡ take loads t.loads.items
+        → AreTouched r (n + 1) next i new
     kept_write e more less = record {
       rows = subst (λ xs. AreRows (order r) r.entries (n + 1) i xs (places new.loads.items)) (sym (ap places more ∙ put_is writes t.writes.items))
           (subst (λ xs. AreRows (order r) r.entries (n + 1) i (take writes (places t.writes.items) ++ n ∷ []) xs) (sym (ap places less ∙ map_first loads t.loads.items))
@@ -167,7 +171,8 @@ abbrev loads_of : Option Touched → List ℕ
 loads_of None = []
 loads_of (Some t) = places t.loads.items
 
-module _ (r : Run) (n : ℕ) (w : n < length r.entries) (lanes next : Lanes) (lane_kept : (p : ℕ) → p < n → next.lane p ≡ lanes.lane p) (a : Action) (event : IsEvent r n a) where
+module _ (r : Run) (n : ℕ) (w : n < length r.entries) (lanes next : Lanes) (lane_kept : (p : ℕ) → p < n → next.lane p ≡ lanes.lane p) (a : Action)
+    (event : IsEvent r n a) where
   abbrev y : Entry
   y = at Synchronised r.entries n w
 
@@ -184,7 +189,8 @@ module _ (r : Run) (n : ℕ) (w : n < length r.entries) (lanes next : Lanes) (la
   rows_so m ls i None k = k
   rows_so m ls i (Some t) k = k.rows
 
-  so_more : (i : ℕ) (o : Option Touched) → AreTouchedSo r n lanes i o → AreRows (order r) r.entries (n + 1) i (writes_of o) (loads_of o) → AreTouchedSo r (n + 1) next i o
+  so_more : (i : ℕ) (o : Option Touched) → AreTouchedSo r n lanes i o → AreRows (order r) r.entries (n + 1) i (writes_of o) (loads_of o)
+      → AreTouchedSo r (n + 1) next i o
   so_more i None k rows = rows
   so_more i (Some t) k rows = record { rows = rows; writes = accesses_on r lanes next n (n + 1) (omega arith) lane_kept t.writes.items k.writes; loads = accesses_on r lanes next n (n + 1) (omega arith) lane_kept t.loads.items k.loads }
 
@@ -201,7 +207,9 @@ module _ (r : Run) (n : ℕ) (w : n < length r.entries) (lanes next : Lanes) (la
         so_more i (touched_of named i) (kept i) (none_kept (order r) r.entries n w y y_here (slot_here ∙ none) i (writes_of (touched_of named i)) (loads_of (touched_of named i)) (rows_so n lanes i (touched_of named i) (kept i)))
 
   -- what shares something
-  module _ (i : ℕ) (slot : slot_of a ≡ Some i) (old new : Named) (v : Touched) (writes : (u : ℕ) → touched_of new u ≡ cond (i == u) (Some v) (touched_of old u)) (kept : AreKept r n lanes old) (it : AreTouched r (n + 1) next i v) where
+  module _ (i : ℕ) (slot : slot_of a ≡ Some i) (old new : Named) (v : Touched)
+      (writes : (u : ℕ) → touched_of new u ≡ cond (i == u) (Some v) (touched_of old u)) (kept : AreKept r n lanes old)
+      (it : AreTouched r (n + 1) next i v) where
     here_is : touched_of new i ≡ Some v
     here_is = writes i ∙ ap (λ b. cond b (Some v) (touched_of old i)) (eq-eqb i i refl)
 
@@ -222,7 +230,8 @@ module _ (r : Run) (n : ℕ) (w : n < length r.entries) (lanes next : Lanes) (la
         (cases_eq j i)
 
 -- nothing at an index
-pub touched_none : (r : Run) (n : ℕ) (lanes : Lanes) (i : ℕ) (t : Touched) → t.writes.items ≡ [] → t.loads.items ≡ [] → AreRows (order r) r.entries n i [] [] → AreTouched r n lanes i t
+pub touched_none : (r : Run) (n : ℕ) (lanes : Lanes) (i : ℕ) (t : Touched) → t.writes.items ≡ [] → t.loads.items ≡ [] → AreRows (order r) r.entries n i [] []
+    → AreTouched r n lanes i t
 touched_none r n lanes i t writes loads rows = record {
   rows = subst (λ xs. AreRows (order r) r.entries n i (places xs) (places t.loads.items)) (sym writes) (subst (λ xs. AreRows (order r) r.entries n i [] (places xs)) (sym loads) rows);
   writes = λ j a g. absurd (none_some a (sym (ap (λ xs. slice_get xs j) writes) ∙ g));
@@ -230,5 +239,6 @@ touched_none r n lanes i t writes loads rows = record {
 }
 
 -- where the map was written as it was
-pub moved_writes : (i : ℕ) (old mid new : Named) (v : Touched) → mid ≡ old → ((u : ℕ) → touched_of new u ≡ cond (i == u) (Some v) (touched_of mid u)) → (u : ℕ) → touched_of new u ≡ cond (i == u) (Some v) (touched_of old u)
+pub moved_writes : (i : ℕ) (old mid new : Named) (v : Touched) → mid ≡ old → ((u : ℕ) → touched_of new u ≡ cond (i == u) (Some v) (touched_of mid u))
+    → (u : ℕ) → touched_of new u ≡ cond (i == u) (Some v) (touched_of old u)
 moved_writes i old mid new v same writes u = writes u ∙ ap (λ (m : Named). cond (i == u) (Some v) (touched_of m u)) same

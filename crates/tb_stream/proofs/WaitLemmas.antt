@@ -47,7 +47,8 @@ got_low (y ∷ xs) zero x e = omega arith
 got_low (y ∷ xs) (suc i) x e = omega (arith, got_low xs i x e)
 
 -- an item of the kind at the cell, or at all memory, has the key of the one or of the other
-pub noted_met : (r : Run) (n g x : ℕ) (asked : Option Kind) (kind : Kind) (c : ℕ) → asked ≡ Some kind → IsChildEnd r n g x × HasMet r asked c x → IsNoted r n (item_key g kind (Cell c)) x ⊎ IsNoted r n (item_key g kind All) x
+pub noted_met : (r : Run) (n g x : ℕ) (asked : Option Kind) (kind : Kind) (c : ℕ) → asked ≡ Some kind → IsChildEnd r n g x × HasMet r asked c x
+    → IsNoted r n (item_key g kind (Cell c)) x ⊎ IsNoted r n (item_key g kind All) x
 noted_met r n g x asked kind c is (child, met) = by met.1.place refl met.4
   where
     same : kind ≡ met.1.kind
@@ -66,7 +67,9 @@ abbrev pub asked_of : Bool → Kind → Kind → Option Kind
 asked_of exclusion new old = cond (asks exclusion new old) (Some old) None
 
 -- an item that may be met is one of a kind that is asked for
-pub met_of : (r : Run) (n g x : ℕ) (item : Item) (c : ℕ) → item.place ≡ Cell c → IsChildEnd r n g x × (list_any (may_meet r.exclusion item) (items_at r.entries x) ≡ true) → (k : Kind) × (IsChildEnd r n g x × HasMet r (asked_of r.exclusion item.kind k) c x)
+pub met_of : (r : Run) (n g x : ℕ) (item : Item) (c : ℕ) → item.place ≡ Cell c
+    → IsChildEnd r n g x × (list_any (may_meet r.exclusion item) (items_at r.entries x) ≡ true)
+    → (k : Kind) × (IsChildEnd r n g x × HasMet r (asked_of r.exclusion item.kind k) c x)
 met_of r n g x item c place (child, h) =
     let a = any_at (may_meet r.exclusion item) (items_at r.entries x) h in
     let b = and_parts (same_place item.place a.1.place) (asks r.exclusion item.kind a.1.kind) a.4 in
@@ -74,7 +77,9 @@ met_of r n g x item c place (child, h) =
 
 module _ (r : Run) (n : ℕ) (lanes : Lanes) (rows : List (Vec LaneBound Global)) (k : ℕ) where
   -- kind by kind
-  pub merges_kinds : (P : Kind → ℕ → Type 0) (S : ℕ → Type 0) (a b c d e f : Joined) → Merges r n lanes rows k (P In) a b → Merges r n lanes rows k (P Out) b c → Merges r n lanes rows k (P Inout) c d → Merges r n lanes rows k (P Mutexinoutset) d e → Merges r n lanes rows k (P Inoutset) e f
+  pub merges_kinds : (P : Kind → ℕ → Type 0) (S : ℕ → Type 0) (a b c d e f : Joined) → Merges r n lanes rows k (P In) a b
+      → Merges r n lanes rows k (P Out) b c → Merges r n lanes rows k (P Inout) c d → Merges r n lanes rows k (P Mutexinoutset) d e
+      → Merges r n lanes rows k (P Inoutset) e f
       → ((x : ℕ) → S x → (j : Kind) × P j x) → Merges r n lanes rows k S a f
   merges_kinds P S a b c d e f m1 m2 m3 m4 m5 which =
       merges_both r n lanes rows k (λ x. P In x ⊎ (P Out x ⊎ (P Inout x ⊎ P Mutexinoutset x))) (P Inoutset) S a e f
@@ -104,7 +109,8 @@ module _ (r : Run) (n : ℕ) (lanes : Lanes) (rows : List (Vec LaneBound Global)
       fifth Inoutset x p = inr p
 
   -- a row by its key
-  pub merges_no_row : (P : ℕ → Type 0) (o : Option (Vec End Global)) → o ≡ None → IsRowOf r n lanes rows P o → (j : Joined) → AreJoined r n lanes rows k j → Merges r n lanes rows k P j j
+  pub merges_no_row : (P : ℕ → Type 0) (o : Option (Vec End Global)) → o ≡ None → IsRowOf r n lanes rows P o → (j : Joined) → AreJoined r n lanes rows k j
+      → Merges r n lanes rows k P j j
   merges_no_row P o is row j are = merges_none r n lanes rows k j are P (λ x l p h. none o is row x p)
     where
       none : (o : Option (Vec End Global)) → o ≡ None → IsRowOf r n lanes rows P o → (x : ℕ) → P x → ⊥
@@ -129,7 +135,8 @@ module _ (r : Run) (n : ℕ) (lanes : Lanes) (o : Order) (w : Waiter) (wait : Is
   pub action_is : w.action.now ≡ v.action
   action_is = wait.now.action (at Synchronised r.entries n inside) (at_read Synchronised r.entries n inside)
 
-  child_by : (x : ℕ) (end : IsEnd r.entries n x) (i : x < length r.entries) → parent_of (ev r.entries x i).task ≡ waited_by w.action.now v.task → IsChildEnd r n w.parent x
+  child_by : (x : ℕ) (end : IsEnd r.entries n x) (i : x < length r.entries) → parent_of (ev r.entries x i).task ≡ waited_by w.action.now v.task
+      → IsChildEnd r n w.parent x
   child_by x end i e = (
     end,
     λ y g.
@@ -144,7 +151,8 @@ module _ (r : Run) (n : ℕ) (lanes : Lanes) (o : Order) (w : Waiter) (wait : Is
   WaitsFor x = IsEnd r.entries n x × (waits_at (order r) r.entries n x ≡ true)
 
   -- a start
-  pub start_waits : w.action.now ≡ Start → (items : List Item) → items ≡ items_of v.task (front r n) → (x : ℕ) → WaitsFor x → IsChildEnd r n w.parent x × (some_may_meet r.exclusion items (items_at r.entries x) ≡ true)
+  pub start_waits : w.action.now ≡ Start → (items : List Item) → items ≡ items_of v.task (front r n) → (x : ℕ) → WaitsFor x
+      → IsChildEnd r n w.parent x × (some_may_meet r.exclusion items (items_at r.entries x) ≡ true)
   start_waits is items named x (end, h) =
       let i : x < length r.entries = omega (arith, end.0, inside) in
       let acts = sym action_is ∙ is in (
@@ -153,7 +161,8 @@ module _ (r : Run) (n : ℕ) (lanes : Lanes) (o : Order) (w : Waiter) (wait : Is
       )
 
   -- a `taskwait`
-  pub wait_waits : (items : List Item) → v.action ≡ Wait items → (x : ℕ) → WaitsFor x → IsChildEnd r n w.parent x × ((has_no_items items || some_may_meet r.exclusion items (items_at r.entries x)) ≡ true)
+  pub wait_waits : (items : List Item) → v.action ≡ Wait items → (x : ℕ) → WaitsFor x
+      → IsChildEnd r n w.parent x × ((has_no_items items || some_may_meet r.exclusion items (items_at r.entries x)) ≡ true)
   wait_waits items acts x (end, h) =
       let i : x < length r.entries = omega (arith, end.0, inside) in (
         child_by x end i (wait_parent r n inside x end i items acts h ∙ sym (ap (λ a. waited_by a v.task) (action_is ∙ acts))),
@@ -174,7 +183,8 @@ module _ (r : Run) (n : ℕ) (lanes : Lanes) (o : Order) (w : Waiter) (wait : Is
       none_counts false = refl
 
   -- a step after an undeferred child
-  pub held_waits : (x : ℕ) (end : IsEnd r.entries n x) → is_start w.action.now ≡ false → holds (own v.task (front r n)) (ev r.entries x (at_end x end)).task ≡ true → IsChildEnd r n w.parent x
+  pub held_waits : (x : ℕ) (end : IsEnd r.entries n x) → is_start w.action.now ≡ false
+      → holds (own v.task (front r n)) (ev r.entries x (at_end x end)).task ≡ true → IsChildEnd r n w.parent x
   held_waits x end other h = child_by x end (at_end x end) (held_parent r n inside x end (at_end x end) h ∙ sym (ap (λ b. cond b (parent_of v.task) v.task) other))
 
   -- of the ends to which it is linked, it waits for those of others, or was at their task
@@ -190,12 +200,14 @@ module _ (r : Run) (n : ℕ) (lanes : Lanes) (o : Order) (w : Waiter) (wait : Is
   only_start Start h = refl
   only_start _ h = absurd (false≢true h)
 
-  all_by : (Q : ℕ → Type 0) → ((x : ℕ) (end : IsEnd r.entries n x) → holds (own v.task (front r n)) (ev r.entries x (at_end x end)).task ≡ true → Q x) → (x : ℕ) → x < n → IsEnd r.entries n x → links_at (order r) r.entries n x ≡ true
+  all_by : (Q : ℕ → Type 0) → ((x : ℕ) (end : IsEnd r.entries n x) → holds (own v.task (front r n)) (ev r.entries x (at_end x end)).task ≡ true → Q x)
+      → (x : ℕ) → x < n → IsEnd r.entries n x → links_at (order r) r.entries n x ≡ true
       → (WaitsFor x ⊎ Q x) ⊎ ((j : Joined) → IsTold r n lanes k j x)
   all_by Q held x l end h = ⊎_elim (λ a. inr (λ j. own_known j x l a)) (λ b. ⊎_elim (λ a. inl (inl (end, a))) (λ a. inl (inr (held x end a))) b) (linked_ways x end h)
 
   -- where it was at an undeferred child
-  pub all_held : (a b c : Joined) → Merges r n lanes rows k WaitsFor a b → Merges r n lanes rows k (IsChildEnd r n w.parent) b c → Merges r n lanes rows k (IsEnd r.entries n) a c
+  pub all_held : (a b c : Joined) → Merges r n lanes rows k WaitsFor a b → Merges r n lanes rows k (IsChildEnd r n w.parent) b c
+      → Merges r n lanes rows k (IsEnd r.entries n) a c
   all_held a b c f g =
       merges_own r n lanes rows k (λ x. WaitsFor x ⊎ IsChildEnd r n w.parent x) (IsEnd r.entries n) a c
       (all_by (IsChildEnd r n w.parent) (λ x end h.
@@ -203,7 +215,8 @@ module _ (r : Run) (n : ℕ) (lanes : Lanes) (o : Order) (w : Waiter) (wait : Is
       (merges_both r n lanes rows k WaitsFor (IsChildEnd r n w.parent) (λ x. WaitsFor x ⊎ IsChildEnd r n w.parent x) a b c f g (λ x l s h. s))
 
   -- where it didn't
-  pub all_unheld : holds_some (own v.task (front r n)) ≡ false → (a b : Joined) → Merges r n lanes rows k WaitsFor a b → Merges r n lanes rows k (IsEnd r.entries n) a b
+  pub all_unheld : holds_some (own v.task (front r n)) ≡ false → (a b : Joined) → Merges r n lanes rows k WaitsFor a b
+      → Merges r n lanes rows k (IsEnd r.entries n) a b
   all_unheld none a b f =
       merges_own r n lanes rows k WaitsFor (IsEnd r.entries n) a b
       (λ x l end h. ⊎_elim (λ s. ⊎_elim (λ q. inl q) (λ q. absurd q) s) (λ t. inr t)

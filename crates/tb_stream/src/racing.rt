@@ -83,8 +83,10 @@ fn race_at(
 ) -> Result<Option<Race>, AllocError>
     ensures { IfOk result (λ o. (cells : Cells) (H : History) (exclusion : Bool) (r : Run)
         → AreIds cells H ids.now → Begins exclusion (event_of name.now action.now ∷ H) r
-        → k ≡ suc (length (own name.now H)) → IsFound exclusion H (event_of name.now action.now) (Some access)
-        → apart ≡ not exclusion → o ≡ Racing.newest_race (order_of exclusion) H (event_of name.now action.now) H) }
+        → k ≡ suc (length (own name.now H))
+        → IsFound exclusion H (event_of name.now action.now) (Some access)
+        → apart ≡ not exclusion
+        → o ≡ Racing.newest_race (order_of exclusion) H (event_of name.now action.now) H) }
 {
     let Some(conflict) = conflict_of(action) else {
         return Ok(None);

@@ -27,7 +27,8 @@ up-init c =
     }
 
 -- one task further up
-further : (es : List Entry) (at from last next : ℕ) (o p : Option Name) (t : Name) → o ≡ Some t → p ≡ parent t → next ≤ last → OnlyAbove o es at from last → NoneOf t es at from next → OnlyAbove p es at from next
+further : (es : List Entry) (at from last next : ℕ) (o p : Option Name) (t : Name) → o ≡ Some t → p ≡ parent t → next ≤ last → OnlyAbove o es at from last
+    → NoneOf t es at from next → OnlyAbove p es at from next
 further es at from last next o p t is up lower only none =
     subst (λ (q : Option Name). OnlyAbove q es at from next) (sym up)
     (next_parent es at from last next t lower (subst (λ (q : Option Name). OnlyAbove q es at from last) is only) none)
