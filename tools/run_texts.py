@@ -111,18 +111,25 @@ def execute(r: random.Random, session: Session, most: int) -> None:
     rolls = r.choice([0, 0, 0.02])
     # More of them could take back as much as is executed.
     left_to_roll = 10
+    ready: list[str] = []
+    left_of_ready = 0
     while len(session.steps) < most:
         left = most - len(session.steps)
         if style == 'least':
             if not session.execute('run %d' % min(left, r.choice([1, 5, 50, 500]))):
                 return
         else:
-            ready = session.ask('ready')
-            if not ready:
-                return
+            if not left_of_ready:
+                ready = session.ask('ready')
+                if not ready:
+                    return
+                # A long list is used for a while: it takes longer to make than a step.
+                left_of_ready = 1 + len(ready) // 10
+            left_of_ready -= 1
             task = ready[-1] if style == 'newest' else r.choice(ready)
             for _ in range(min(left, 1 if style == 'any' and len(ready) < 50 else r.choice([2, 5, 20]))):
                 if not session.execute('step ' + task):
+                    left_of_ready = 0
                     break
         if session.steps and left_to_roll and r.random() < rolls:
             left_to_roll -= 1
