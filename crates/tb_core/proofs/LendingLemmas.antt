@@ -62,6 +62,10 @@ items_left tables index all front count t left view s =
     ∙ items_settled left.cells b F t (subst (Legal left.cells) (parted count all) left.legal) (subst (λ es. IsSpawned (history_of es) t) (sym view) s)
     ∙ ap (λ es. items_of t (history_of es)) view
 
+pub items_in_front : (entries : List Entry) (k : ℕ) (t : Name) → AreLegal entries → IsSpawned (history_of (take k entries)) t → items_of t (history_of entries) ≡ items_of t (history_of (take k entries))
+items_in_front entries k t legal s =
+    ap (items_of t) (parted k entries) ∙ items_settled legal.cells (history_of (drop k entries)) (history_of (take k entries)) t (subst (Legal legal.cells) (parted k entries) legal.legal) s
+
 -- ---- the task of an entry was generated in front of it
 
 pub spawned_at : (entries : List Entry) (at : ℕ) (e : Entry) → at < length entries → e ≡ get_or entries at e → AreLegal entries → IsSpawned (history_of (take at entries)) e.event.task

@@ -1,8 +1,9 @@
 //! The children of one task.
 
-ghost use Rattle.std.specs.Prelude.{◌≡◌, ◌<◌, ◌≤◌, ◌+◌, ◌-◌, [], ◌∷◌, ◌++◌, IsOk, OnOk, OnErr, IfOk, IsTrue, ◌↔◌, length, take, min, vec_capacity};
+ghost use Rattle.std.specs.Prelude.{◌≡◌, ◌<◌, ◌≤◌, ◌+◌, ◌-◌, ℕ, [], ◌∷◌, ◌++◌, IsOk, OnOk, OnErr, IfOk, IsFalse, IsTrue, ◌↔◌, length, take, min, vec_capacity};
 ghost use Rattle.tb_depend.specs.Numbers.{numbers_where};
 ghost use Rattle.tb_depend.specs.Relations.{items_at, depends, excludes, is_covered, preds_of, apart_of, covered_by};
+ghost use Rattle.tb_depend.specs.Met.{NoneBehind, NoneInFront};
 ghost use Rattle.tb_depend.specs.Table.{HasRoomFor, KeepsRoom, FreesRoom};
 ghost use Rattle.tb_depend.specs.Nearness.{IsClosed, AreOver, AreOverFor, AreNear};
 
@@ -86,6 +87,52 @@ impl Siblings {
     {
         (m < n && some_apart(self.items(n), self.items(m)))
             || (n < m && some_apart(self.items(m), self.items(n)))
+    }
+
+    /// Whether some child may depend on the nth or exclude it: those behind it are asked first, which mostly do
+    /// where any does, and none where the nth has no items. Takes no memory.
+    pub fn is_met(&self, n: usize) -> bool
+        ensures { IsFalse result → (m : ℕ) →
+            IsFalse (depends self.now.siblings m n) × IsFalse (excludes self.now.siblings m n) }
+    {
+        if self.items(n).is_empty() {
+            return false;
+        }
+        if self.is_met_behind(n) {
+            return true;
+        }
+        self.is_met_in_front(n)
+    }
+
+    /// Whether some child behind the nth depends on it or excludes it.
+    fn is_met_behind(&self, n: usize) -> bool
+        ensures { IsFalse result → NoneBehind self.now.siblings n }
+    {
+        let own = self.items(n);
+        let mut k = n;
+        'behind: while k < self.len() {
+            let items = self.items(k + 1);
+            if some_before(items, own) || some_apart(items, own) {
+                return true;
+            }
+            k += 1;
+        }
+        false
+    }
+
+    /// Whether some child in front of the nth excludes it.
+    fn is_met_in_front(&self, n: usize) -> bool
+        ensures { IsFalse result → NoneInFront self.now.siblings n }
+    {
+        let own = self.items(n);
+        let mut k = 1;
+        'front: while k < n {
+            if some_apart(own, self.items(k)) {
+                return true;
+            }
+            k += 1;
+        }
+        false
     }
 
     /// Whether a `taskwait` with these items waits for the nth child. Without items it waits for
