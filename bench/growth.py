@@ -100,10 +100,10 @@ def nothing(command: bytes) -> OfSize:
     return session
 
 
-def each(command: bytes) -> OfSize:
+def each(command: bytes, clause: str = '') -> OfSize:
     """A command on each of n siblings in turn, among all that are over; what it took back is taken again."""
     def session(n: int) -> bytes:
-        text = siblings(n, 'task t', ['let r0 1'])
+        text = siblings(n, 'task t' + clause, ['let r0 1'], n if clause else 1)
         return text + b'run 1000000\n' + b''.join(command.replace(b'N', b'%d' % k) for k in range(1, n + 1))
     return session
 
@@ -161,6 +161,8 @@ ROWS: list[tuple[str, OfSize]] = [
     ('rollcell that finds nothing', nothing(b'rollcell 1\n')),
     ('rollprint that finds nothing', nothing(b'rollprint\n')),
     ('undo of each end in turn', each(b'undo 0.N#3\nstep 0.N\n')),
+    ('undo of each end in turn, with an item each', each(b'undo 0.N#3\nstep 0.N\n', ' depend inout r0')),
+    ('undo of each end in turn, with one item', each(b'undo 0.N#3\nstep 0.N\n', ' depend in 0')),
     ('roll in the middle of each task in turn', each(b'roll 0.N#2\nrun 2\n')),
     ('rolltask of each task in turn', each(b'rolltask 0.N\nrun 3\n')),
     ('deps of each sibling in turn', each(b'deps 0.N\n')),

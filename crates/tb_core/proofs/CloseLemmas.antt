@@ -90,6 +90,7 @@ module _ (going : List ℕ) (old now : List Stored) (at stay next : ℕ) (l : Cl
           ∙ l.done;
     }
 
-pub closes_last : (going : List ℕ) (old now : List Stored) (at stay next : ℕ) → length old ≤ at → Closes going old now at stay next → take stay now ≡ left_from 0 going old
+pub closes_last : (going : List ℕ) (old now : List Stored) (at stay next : ℕ) → length old ≤ at → Closes going old now at stay next
+    → take stay now ≡ left_from 0 going old
 closes_last going old now at stay next past l =
     sym (append-nil (take stay now)) ∙ ap (λ r. take stay now ++ left_from at (drop next going) r) (sym (drop_of_length-le old past)) ∙ l.done

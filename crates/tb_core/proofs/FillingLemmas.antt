@@ -50,7 +50,8 @@ IsCount s t o = (root_line : ℕ) (D : List Departure) → IsTaskState root_line
 
 -- the count as a number, and the name that comes next
 module _ (s : Tables) (t : Name) (o : Option ℕ) (n : ℕ) (c : IsCount s t o) (e : n ≡ unwrap_or o 0) where
-  counted : (first : Cells) (root_line : ℕ) (D : List Departure) → IsState first root_line D s → IsSpawned (events_of D) t → n ≡ spawn_count (own t (events_of D))
+  counted : (first : Cells) (root_line : ℕ) (D : List Departure) → IsState first root_line D s → IsSpawned (events_of D) t
+      → n ≡ spawn_count (own t (events_of D))
   counted first root_line D k h =
       e ∙ ap (λ m. unwrap_or m 0) (c root_line D k.of_tasks ∙ ap (λ b. cond b (Some (spawn_count (own t (events_of D)))) None) h)
 
@@ -91,7 +92,9 @@ abbrev event : Name → Action → Event
 event t a = record { task = t; action = a }
 
 -- a load reads the value that was read
-pub load_filled : (s : Tables) (t : Name) (a b : Action) (r c : ℕ) (x y : ℤ) → ((first : Cells) (root_line : ℕ) (D : List Departure) → IsState first root_line D s → y ≡ last (first_number first c) c (events_of D)) → a ≡ Load r c x → b ≡ Load r c y → Fills s t a (record { task = t; action = b })
+pub load_filled : (s : Tables) (t : Name) (a b : Action) (r c : ℕ) (x y : ℤ)
+    → ((first : Cells) (root_line : ℕ) (D : List Departure) → IsState first root_line D s → y ≡ last (first_number first c) c (events_of D)) → a ≡ Load r c x
+    → b ≡ Load r c y → Fills s t a (record { task = t; action = b })
 load_filled s t a b r c x y reads is made first root_line D k h =
     ap (λ e. event t e) (made ∙ ap (Load r c) (reads first root_line D k) ∙ ap (completed first (events_of D) t) (sym is))
 
@@ -101,7 +104,8 @@ module _ (s : Tables) (t : Name) (a : Action) (p : TheSpawn) (is : a ≡ Spawn p
   spawn_filled b q next made first root_line D k h =
       ap (λ e. event t e) (made ∙ ap (λ y. Spawn y) (next first root_line D k h) ∙ ap (completed first (events_of D) t) (sym is))
 
-  spawn_named : (v : Event) → Fills s t a v → (first : Cells) (root_line : ℕ) (D : List Departure) → IsState first root_line D s → IsSpawned (events_of D) t → spawn_in v.action ≡ Some (record p { child = child t (suc (spawn_count (own t (events_of D)))) })
+  spawn_named : (v : Event) → Fills s t a v → (first : Cells) (root_line : ℕ) (D : List Departure) → IsState first root_line D s → IsSpawned (events_of D) t
+      → spawn_in v.action ≡ Some (record p { child = child t (suc (spawn_count (own t (events_of D)))) })
   spawn_named v f first root_line D k h =
       ap (λ (w : Event). spawn_in w.action) (f first root_line D k h) ∙ ap (λ b. spawn_in (completed first (events_of D) t b)) is
 
@@ -137,7 +141,8 @@ no_spawn s t a v r other f =
     completed_none first H _ other = refl
 
 -- any other action is as it was planned
-pub completed_other : (first : Cells) (H : History) (t : Name) (a : Action) → ((r c : ℕ) (x : ℤ) → a ≢ Load r c x) → ((q : TheSpawn) → a ≢ Spawn q) → completed first H t a ≡ a
+pub completed_other : (first : Cells) (H : History) (t : Name) (a : Action) → ((r c : ℕ) (x : ℤ) → a ≢ Load r c x) → ((q : TheSpawn) → a ≢ Spawn q)
+    → completed first H t a ≡ a
 completed_other first H t (Load r c x) l s = absurd (l r c x refl)
 completed_other first H t (Spawn q) l s = absurd (s q refl)
 completed_other first H t _ l s = refl
@@ -145,6 +150,7 @@ completed_other first H t _ l s = refl
 pub whole_named : (s : Tables) (t name : Name) (a : Action) → name ≡ t → IsWhole a → Fills s t a (record { task = name; action = a })
 whole_named s t name a same whole first root_line D k h = ap₂ (λ u b. event u b) same (sym (whole first (events_of D) t))
 
-pub other_filled : (s : Tables) (t : Name) (a b : Action) → ((r c : ℕ) (x : ℤ) → a ≢ Load r c x) → ((q : TheSpawn) → a ≢ Spawn q) → b ≡ a → Fills s t a (record { task = t; action = b })
+pub other_filled : (s : Tables) (t : Name) (a b : Action) → ((r c : ℕ) (x : ℤ) → a ≢ Load r c x) → ((q : TheSpawn) → a ≢ Spawn q) → b ≡ a
+    → Fills s t a (record { task = t; action = b })
 other_filled s t a b l n same first root_line D k h =
     ap (λ e. event t e) (same ∙ sym (completed_other first (events_of D) t a l n))

@@ -89,7 +89,8 @@ module _ (t : Name) (H G : History) (v : Event) (more : H ≡ v ∷ G) (mine : i
   pub behind_inner : (closed : ℕ) → v.action ≡ Open → closed ≢ 0 → open_behind t (closed - 1) older ≡ open_behind t closed (own t H)
   behind_inner closed is inside = sym (ap (open_behind t closed) (newest Open is) ∙ at_open_inside t closed older inside)
 
-  pub behind_open : (closed left : ℕ) (ids pushed : List StepId) → v.action ≡ Open → closed ≡ 0 → left ≡ length (own t H) → pushed ≡ ids ++ (record { task = t; k = left }) ∷ []
+  pub behind_open : (closed left : ℕ) (ids pushed : List StepId) → v.action ≡ Open → closed ≡ 0 → left ≡ length (own t H)
+      → pushed ≡ ids ++ (record { task = t; k = left }) ∷ []
       → pushed ++ open_behind t closed older ≡ ids ++ open_behind t closed (own t H)
   behind_open closed left ids pushed is none counted push =
       let at : left ≡ suc (length older) = counted ∙ one_more in
@@ -103,10 +104,12 @@ module _ (t : Name) (H G : History) (v : Event) (more : H ≡ v ∷ G) (mine : i
   -- ---- members
 
   -- a newer step than the kth
-  since : (k : ℕ) (m : Name) (a : Action) (acts : List Action) → nat_le k (length acts) ≡ true → is_member_of k (a ∷ acts) m ≡ (makes_member a m || is_member_of k acts m)
+  since : (k : ℕ) (m : Name) (a : Action) (acts : List Action) → nat_le k (length acts) ≡ true
+      → is_member_of k (a ∷ acts) m ≡ (makes_member a m || is_member_of k acts m)
   since k m a acts h = ap (λ b. list_any (λ c. is_within c m) (cond b (Rattle.tb_model.specs.State.with_child a (children_since k acts)) [])) h ∙ by_child a
     where
-      by_child : (a : Action) → list_any (λ c. is_within c m) (Rattle.tb_model.specs.State.with_child a (children_since k acts)) ≡ (makes_member a m || is_member_of k acts m)
+      by_child : (a : Action)
+          → list_any (λ c. is_within c m) (Rattle.tb_model.specs.State.with_child a (children_since k acts)) ≡ (makes_member a m || is_member_of k acts m)
       by_child Start = refl
       by_child (Let r x) = refl
       by_child (Load r c x) = refl

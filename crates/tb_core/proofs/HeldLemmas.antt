@@ -38,7 +38,8 @@ pub as_many : (names : List Name) (ss : List Stored) (es : List Entry) → AllZi
 as_many names ss es z = length-map (reverse es) departure ∙ length-reverse es ∙ AllZip-long (IsStored names) ss es z
 
 -- few stored steps are stored
-pub few_stored : (first : Cells) (root_line limit : ℕ) (ss : List Stored) (es : List Entry) (tables : Tables) → AllZip (IsStored (names_in tables)) ss es → IsSound first root_line limit (reverse es) tables → length ss ≤ 1000000
+pub few_stored : (first : Cells) (root_line limit : ℕ) (ss : List Stored) (es : List Entry) (tables : Tables) → AllZip (IsStored (names_in tables)) ss es
+    → IsSound first root_line limit (reverse es) tables → length ss ≤ 1000000
 few_stored first root_line limit ss es tables z sound = omega (arith, sound.within, sound.bound, length-reverse es, AllZip-long (IsStored (names_in tables)) ss es z)
 
 -- what always holds, and which history is shown
@@ -48,7 +49,8 @@ pub record Holds (first : Cells) (root_line limit : ℕ) (ss : List Stored) (es 
   pub index : IsIndexOf (names_in tables) (events_in (entries_in tables ss)) p
   pub stored : AllZip (IsStored (names_in tables)) ss (entries_in tables ss)
 
-pub held : (first : Cells) (root_line limit : ℕ) (ss : List Stored) (es : List Entry) (tables : Tables) (p : Places) → IsSound first root_line limit (reverse es) tables → AllZip (IsStored (names_in tables)) ss es
+pub held : (first : Cells) (root_line limit : ℕ) (ss : List Stored) (es : List Entry) (tables : Tables) (p : Places)
+    → IsSound first root_line limit (reverse es) tables → AllZip (IsStored (names_in tables)) ss es
     → IsIndexOf (names_in tables) (events_in es) p → Holds first root_line limit ss es tables p
 held first root_line limit ss es tables p sound z index =
     let same : entries_in tables ss ≡ es = entries_are first root_line limit tables ss es z sound in
@@ -60,7 +62,8 @@ held first root_line limit ss es tables p sound z index =
     }
 
 -- where only capacity has changed
-pub held_same : (first : Cells) (root_line limit : ℕ) (ss left : List Stored) (was now : Tables) (old new : Places) → left ≡ ss → AreSame was now → KeepsNames was.waits.tasks now.waits.tasks
+pub held_same : (first : Cells) (root_line limit : ℕ) (ss left : List Stored) (was now : Tables) (old new : Places) → left ≡ ss → AreSame was now
+    → KeepsNames was.waits.tasks now.waits.tasks
     → ((names : List Name) (events : List Event) → IsIndexOf names events old → IsIndexOf names events new)
     → IsSound first root_line limit (reverse (entries_in was ss)) was → IsIndexOf (names_in was) (events_in (entries_in was ss)) old → AllZip (IsStored (names_in was)) ss (entries_in was ss)
     → Holds first root_line limit left (entries_in was ss) now new
@@ -71,7 +74,8 @@ held_same first root_line limit ss left was now old new kept same keeps index_ke
     (index_same es es old new was now refl index_kept keeps index)
 
 -- the run that is shown
-pub shown_run : (first : Cells) (root_line limit : ℕ) (ss : List Stored) (es : List Entry) (tables : Tables) (p : Places) → Holds first root_line limit ss es tables p
+pub shown_run : (first : Cells) (root_line limit : ℕ) (ss : List Stored) (es : List Entry) (tables : Tables) (p : Places)
+    → Holds first root_line limit ss es tables p
     → seen first root_line limit (reverse (entries_in tables ss)) ≡ seen first root_line limit (reverse es)
 shown_run first root_line limit ss es tables p h = ap (λ l. seen first root_line limit (reverse l)) h.say
 
@@ -90,7 +94,8 @@ module _ (first : Cells) (root_line limit : ℕ) (ss : List Stored) (was : Table
     pub stored' : AllZip (IsStored (names_in now)) left (entries_in now left)
     pub same : shown left now ≡ shown ss was
 
-  pub stays : (left : List Stored) (more : ℕ) (now : Tables) (new : Places) → left ≡ ss → room ≤ more → AreSame was now → KeepsNames was.waits.tasks now.waits.tasks → KeepsRoom was now
+  pub stays : (left : List Stored) (more : ℕ) (now : Tables) (new : Places) → left ≡ ss → room ≤ more → AreSame was now
+      → KeepsNames was.waits.tasks now.waits.tasks → KeepsRoom was now
       → ((names : List Name) (events : List Event) → IsIndexOf names events old → IsIndexOf names events new)
       → ((n : Option ℕ) (a : Action) → HasRoomAs old n a → HasRoomAs new n a) → Stays left more now new
   stays left more now new kept grows same names keeps index_kept places_kept =
@@ -125,7 +130,8 @@ name_there names t n at =
     let x = position-Some (same_name t) names n [] at in
     slice_get-get_or names n [] x.0 ∙ ap (λ u. Some u) (sym (same_true t (get_or names n []) x.1))
 
-pub more_stored : (was now : Tables) (ss mid more : List Stored) (s : Stored) (es : List Entry) (n : ℕ) (v : Event) (to : ℕ) (r : Replaced) → mid ≡ ss → more ≡ mid ++ s ∷ [] → s ≡ stored n v.action r
+pub more_stored : (was now : Tables) (ss mid more : List Stored) (s : Stored) (es : List Entry) (n : ℕ) (v : Event) (to : ℕ) (r : Replaced) → mid ≡ ss
+    → more ≡ mid ++ s ∷ [] → s ≡ stored n v.action r
     → place was.waits.tasks v.task ≡ Some n → KeepsNames was.waits.tasks now.waits.tasks → AllZip (IsStored (names_in was)) ss es → AllZip (IsStored (names_in now)) more (es ++ packed v to r ∷ [])
 more_stored was now ss mid more s es n v to r kept added is at keeps z =
     let one : IsStored (names_in was) (stored n v.action r) (packed v to r) = record { task = name_there (names_in was) v.task n at; action = refl; at = refl; number = refl } in
@@ -134,7 +140,8 @@ more_stored was now ss mid more s es n v to r kept added is at keeps z =
     (all_kept was now (ss ++ stored n v.action r ∷ []) (es ++ packed v to r ∷ []) keeps all)
 
 -- the step is entered
-module _ (first : Cells) (root_line limit : ℕ) (ss : List Stored) (was : Tables) (old : Places) (sound : IsSound first root_line limit (reverse (entries_in was ss)) was)
+module _ (first : Cells) (root_line limit : ℕ) (ss : List Stored) (was : Tables) (old : Places)
+    (sound : IsSound first root_line limit (reverse (entries_in was ss)) was)
     (index : IsIndexOf (names_in was) (events_in (entries_in was ss)) old) (z : AllZip (IsStored (names_in was)) ss (entries_in was ss))
     (s : Seen) (is : seen first root_line limit (reverse (entries_in was ss)) ≡ s) (v : Event) (may : MayFollow s.cells (history s) v) (room : length s.steps < s.limit) where
   abbrev es : List Entry
@@ -146,7 +153,8 @@ module _ (first : Cells) (root_line limit : ℕ) (ss : List Stored) (was : Table
     pub stored' : AllZip (IsStored (names_in now)) more (entries_in now more)
     pub run : seen first root_line limit (reverse (entries_in now more)) ≡ grown_by v to s
 
-  pub entered : (to : ℕ) (r : Replaced) (n : ℕ) (mid more : List Stored) (x : Stored) (now : Tables) (at : ℕ) (kept new : Places) → mid ≡ ss → more ≡ mid ++ x ∷ [] → x ≡ stored n v.action r
+  pub entered : (to : ℕ) (r : Replaced) (n : ℕ) (mid more : List Stored) (x : Stored) (now : Tables) (at : ℕ) (kept new : Places) → mid ≡ ss
+      → more ≡ mid ++ x ∷ [] → x ≡ stored n v.action r
       → place was.waits.tasks v.task ≡ Some n → IsBehind was v to now → IsRecord was v r → KeepsNames was.waits.tasks now.waits.tasks
       → ((names : List Name) (events : List Event) → IsIndexOf names events old → IsIndexOf names events kept)
       → ((names : List Name) (events : List Event) (e : Event) → e.action ≡ v.action → Some n ≡ event_number names e → IsNamed names e → IsIndexOf names events kept → at ≡ length events → IsIndexOf names (events ++ e ∷ []) new)

@@ -14,7 +14,8 @@ use Rattle.tb_steps.proofs.ScanLemmas.{history_newest}
 use Rattle.tb_core.proofs.RenumberLemmas.{some_entry}
 
 -- the newest event comes after those in front of it
-pub parted_at_newest : (es older : List Entry) (at : ℕ) (task : Name) (action : Action) → suc at ≡ length es → older ≡ take at es → ((e : Entry) → e ≡ get_or es at e → task ≡ e.event.task)
+pub parted_at_newest : (es older : List Entry) (at : ℕ) (task : Name) (action : Action) → suc at ≡ length es → older ≡ take at es
+    → ((e : Entry) → e ≡ get_or es at e → task ≡ e.event.task)
     → ((e : Entry) → e ≡ get_or es at e → action ≡ e.event.action) → history_of es ≡ record { task = task; action = action } ∷ history_of older
 parted_at_newest es older at task action last front of did =
     let w = some_entry es at (omega (arith, last)) in
@@ -35,14 +36,16 @@ all_taken zero (x ∷ xs) h = absurd (omega (arith, h))
 all_taken (suc n) [] h = absurd (omega (arith, h))
 all_taken (suc n) (x ∷ xs) h = ap (λ l. x ∷ l) (all_taken n xs (omega (arith, h)))
 
-pub zip_at : {A B : Type 0} (R : A → B → Type 0) (xs : List A) (ys : List B) (i : ℕ) (x : A) (y : B) → AllZip R xs ys → i < length xs → x ≡ get_or xs i x → y ≡ get_or ys i y → R x y
+pub zip_at : {A B : Type 0} (R : A → B → Type 0) (xs : List A) (ys : List B) (i : ℕ) (x : A) (y : B) → AllZip R xs ys → i < length xs → x ≡ get_or xs i x
+    → y ≡ get_or ys i y → R x y
 zip_at R [] ys i x y z h a b = absurd (omega (arith, h))
 zip_at R (v ∷ xs) [] i x y z h a b = absurd z
 zip_at R (v ∷ xs) (w ∷ ys) zero x y z h a b = subst (λ k. R k y) (sym a) (subst (λ k. R v k) (sym b) z.0)
 zip_at R (v ∷ xs) (w ∷ ys) (suc i) x y z h a b = zip_at R xs ys i x y z.1 (omega (arith, h)) a b
 
 -- the first stored steps of those that are stored
-module _ (names : List Name) (ss : List Stored) (es front : List Entry) (count : ℕ) (z : AllZip (IsStored names) ss es) (within : count ≤ length ss) (view : take count es ≡ front) where
+module _ (names : List Name) (ss : List Stored) (es front : List Entry) (count : ℕ) (z : AllZip (IsStored names) ss es) (within : count ≤ length ss)
+    (view : take count es ≡ front) where
   pub front_len : length front ≡ count
   front_len = sym (ap length view) ∙ length-take-le count es (omega (arith, within, AllZip-long (IsStored names) ss es z))
 

@@ -37,15 +37,18 @@ from_oldest (x ∷ es) =
     ∙ ap (λ l. x.event ∷ l) (from_oldest es)
 
 -- what a core shows of an index
-pub shown : (first : Cells) (root_line limit : ℕ) (es : List Entry) (s : Seen) (p : Event → Bool) (found : List ℕ) → seen first root_line limit (reverse es) ≡ s → found ≡ places_where p (events_in es) → found ≡ places_where p (reverse (history s))
+pub shown : (first : Cells) (root_line limit : ℕ) (es : List Entry) (s : Seen) (p : Event → Bool) (found : List ℕ)
+    → seen first root_line limit (reverse es) ≡ s → found ≡ places_where p (events_in es) → found ≡ places_where p (reverse (history s))
 shown first root_line limit es s p found is here = here ∙ ap (places_where p) (sym (from_oldest es) ∙ ap (λ (z : Seen). reverse (history z)) is)
 
 -- there are few stored steps
-pub few_entries : (first : Cells) (root_line limit : ℕ) (es : List Entry) (tables : Tables) → IsSound first root_line limit (reverse es) tables → length es ≤ 1000000
+pub few_entries : (first : Cells) (root_line limit : ℕ) (es : List Entry) (tables : Tables) → IsSound first root_line limit (reverse es) tables
+    → length es ≤ 1000000
 few_entries first root_line limit es tables sound = omega (arith, sound.within, sound.bound, length-reverse es)
 
 -- one stored step was taken out
-pub index_removed : (es xs left : List Entry) (at : ℕ) (going : List ℕ) (p : Places) (was now : Tables) → xs ≡ es → going ≡ at ∷ [] → left ≡ remove es at → KeepsNames was.waits.tasks now.waits.tasks
+pub index_removed : (es xs left : List Entry) (at : ℕ) (going : List ℕ) (p : Places) (was now : Tables) → xs ≡ es → going ≡ at ∷ [] → left ≡ remove es at
+    → KeepsNames was.waits.tasks now.waits.tasks
     → IsIndexOf (names_in was) (left_from 0 going (events_in xs)) p → IsIndexOf (names_in now) (events_in left) p
 index_removed es xs left at going p was now same one gone keeps index =
     index_kept was now (events_in left) p keeps (subst (λ l. IsIndexOf (names_in was) l p) (ap₂ (λ g l. left_from 0 g (events_in l)) one same ∙ left_removed es left at gone) index)

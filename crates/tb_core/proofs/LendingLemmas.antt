@@ -32,7 +32,8 @@ use Rattle.tb_steps.proofs.FirstLemmas.{legal_front, front_legal, step_read}
 use Rattle.tb_core.proofs.OwnLemmas.{own_count, own_number}
 
 -- the tables of a core are those of its stored steps
-pub left : (first : Cells) (root_line limit : ℕ) (tables : Tables) (index : Places) (ss : List Stored) → IsSound first root_line limit (reverse (entries_in tables ss)) tables
+pub left : (first : Cells) (root_line limit : ℕ) (tables : Tables) (index : Places) (ss : List Stored)
+    → IsSound first root_line limit (reverse (entries_in tables ss)) tables
     → IsIndexOf (names_in tables) (events_in (entries_in tables ss)) index → AreLeft tables index (entries_in tables ss)
 left first root_line limit tables index ss s i = record {
   cells = first;
@@ -55,7 +56,8 @@ front_left tables index all front count left view = record {
 }
 
 -- what a task named is known to the tables
-pub items_left : (tables : Tables) (index : Places) (all front : List Entry) (count : ℕ) (t : Name) → AreLeft tables index all → take count all ≡ front → IsSpawned (history_of front) t → items_of t (history_of all) ≡ items_of t (history_of front)
+pub items_left : (tables : Tables) (index : Places) (all front : List Entry) (count : ℕ) (t : Name) → AreLeft tables index all → take count all ≡ front
+    → IsSpawned (history_of front) t → items_of t (history_of all) ≡ items_of t (history_of front)
 items_left tables index all front count t left view s =
     let b = history_of (drop count all) in
     let F = history_of (take count all) in
@@ -63,22 +65,30 @@ items_left tables index all front count t left view s =
     ∙ items_settled left.cells b F t (subst (Legal left.cells) (parted count all) left.legal) (subst (λ es. IsSpawned (history_of es) t) (sym view) s)
     ∙ ap (λ es. items_of t (history_of es)) view
 
+pub items_in_front : (entries : List Entry) (k : ℕ) (t : Name) → AreLegal entries → IsSpawned (history_of (take k entries)) t
+    → items_of t (history_of entries) ≡ items_of t (history_of (take k entries))
+items_in_front entries k t legal s =
+    ap (items_of t) (parted k entries) ∙ items_settled legal.cells (history_of (drop k entries)) (history_of (take k entries)) t (subst (Legal legal.cells) (parted k entries) legal.legal) s
+
 -- ---- the task of a stored step was generated in front of it
 
-pub spawned_at : (entries : List Entry) (at : ℕ) (e : Entry) → at < length entries → e ≡ get_or entries at e → AreLegal entries → IsSpawned (history_of (take at entries)) e.event.task
+pub spawned_at : (entries : List Entry) (at : ℕ) (e : Entry) → at < length entries → e ≡ get_or entries at e → AreLegal entries
+    → IsSpawned (history_of (take at entries)) e.event.task
 spawned_at entries at e within here l =
     let front = history_of (take at entries) in
     let b = history_of (drop (suc at) entries) in
     let legal = legal_front l.cells b (e.event ∷ front) (subst (Legal l.cells) (history_cut entries at e within here) l.legal) in
     may_spawned l.cells front e.event legal.0 legal.1
 
-pub spawned_in : (entries : List Entry) (at : ℕ) (e : Entry) → at < length entries → e ≡ get_or entries at e → AreLegal entries → IsSpawned (history_of entries) e.event.task
+pub spawned_in : (entries : List Entry) (at : ℕ) (e : Entry) → at < length entries → e ≡ get_or entries at e → AreLegal entries
+    → IsSpawned (history_of entries) e.event.task
 spawned_in entries at e within here l =
     let front = history_of (take at entries) in
     subst (λ H. IsSpawned H e.event.task) (sym (history_cut entries at e within here))
     (spawned_later e.event.task (history_of (drop (suc at) entries)) (e.event ∷ front) (grown e.event.task e.event front (spawned_at entries at e within here l)))
 
-pub spawned_before : (entries : List Entry) (later at : ℕ) (v u : Entry) → at < later → later < length entries → v ≡ get_or entries later v → u ≡ get_or entries at u → AreLegal entries → IsSpawned (history_of (take later entries)) u.event.task
+pub spawned_before : (entries : List Entry) (later at : ℕ) (v u : Entry) → at < later → later < length entries → v ≡ get_or entries later v
+    → u ≡ get_or entries at u → AreLegal entries → IsSpawned (history_of (take later entries)) u.event.task
 spawned_before entries later at v u behind within last here l =
     spawned_in (take later entries) at u (omega (arith, length-take later entries, behind, within)) (here ∙ sym (get_or-take later entries at u behind)) (front_legal entries later v within last l)
 
@@ -123,7 +133,8 @@ ranked all front count view within at e own_places n d l here is inside there =
     omega (arith, number, ap (λ (es : List Entry). length (own e.event.task (history_of es))) same)
 
 -- a stored step in front of which are n of its task has the ordinal n + 1
-module _ (entries : List Entry) (at : ℕ) (e : Entry) (n : ℕ) (within : at < length entries) (here : e ≡ get_or entries at e) (rank : n ≡ length (own e.event.task (history_of (take at entries)))) where
+module _ (entries : List Entry) (at : ℕ) (e : Entry) (n : ℕ) (within : at < length entries) (here : e ≡ get_or entries at e)
+    (rank : n ≡ length (own e.event.task (history_of (take at entries)))) where
   pub rank_few : n ≤ at
   rank_few =
       let es = take at entries in

@@ -25,6 +25,7 @@ records_left first root_line (w ∷ later) front e r f = (
 )
 
 -- the record of the step itself is right
-pub record_at : (first : Cells) (root_line : ℕ) (later front : List Entry) (e : Entry) → AreRecords first root_line (later ++ e ∷ front) → replaced_in e ≡ replaced_for first root_line (map departure front) e.event
+pub record_at : (first : Cells) (root_line : ℕ) (later front : List Entry) (e : Entry) → AreRecords first root_line (later ++ e ∷ front)
+    → replaced_in e ≡ replaced_for first root_line (map departure front) e.event
 record_at first root_line [] front e r = r.1
 record_at first root_line (w ∷ later) front e r = record_at first root_line later front e r.0

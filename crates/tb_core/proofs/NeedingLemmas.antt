@@ -1,6 +1,6 @@
 -- The stored steps that are passed over, where the first that needs a step is looked for, don't
 -- need it.
-use Rattle.std.proofs.Common.{◌≡◌, ◌<◌, ◌≤◌, ◌+◌, ◌-◌, ◌==◌, ℕ, zero, suc, List, [], ◌∷◌, ◌++◌, Bool, true, false, ◌&&◌, ◌||◌, Some, None, length, take, drop, get_or, refl, sym, ap, ◌∙◌, subst, arith, rules, tests, ltb}
+use Rattle.std.proofs.Common.{◌≡◌, ◌<◌, ◌≤◌, ◌+◌, ◌-◌, ◌==◌, ℕ, zero, suc, List, [], ◌∷◌, Bool, true, false, ◌&&◌, ◌||◌, Some, None, length, take, get_or, refl, sym, ap, ap₂, ◌∙◌, subst, arith, rules, tests, ltb}
 use Rattle.std.proofs.lemmas.Bool.{true≢false, ltb-true, ltb-false, or_left, or_right}
 use Rattle.std.proofs.lemmas.List.{get_or_default}
 use Rattle.tb_model.specs.declared.action.Action.{Action}
@@ -8,18 +8,18 @@ use Rattle.tb_model.specs.declared.action.Action.TheVariants.{Start, Let, Load, 
 use Rattle.tb_model.specs.declared.event.Event.{Event}
 use Rattle.tb_model.specs.declared.step_id.StepId.{StepId}
 use Rattle.tb_model.specs.declared.item.Item.{Item}
-use Rattle.tb_model.specs.Items.{Relation, has_no_items, is_apart, is_before, some_meet}
+use Rattle.tb_model.specs.Items.{has_no_items, is_apart, is_before, some_meet}
 use Rattle.tb_model.specs.Names.{Name, same_name, is_child, is_elder, is_within, parent}
-use Rattle.tb_model.specs.Facts.{History, holds, is_end, is_member, is_of, items_for, items_of, own, is_print, is_spawn_of, is_store_to, touches}
+use Rattle.tb_model.specs.Facts.{History, IsSpawned, holds, is_end, is_member, is_of, items_of, own, is_print, is_spawn_of, is_store_to, touches}
 use Rattle.tb_model.specs.Needs.{conflicts, needs, needs_end_of, waits_for}
 use Rattle.tb_model.specs.Needers.{first_needer}
 use Rattle.tb_model.proofs.TestLemmas.{same_true, same_refl}
 use Rattle.tb_steps.specs.Entries.{Entry}
 use Rattle.tb_core.specs.Lending.{IsNoneBetween}
-use Rattle.tb_core.specs.Needing.{NoneNeeds, NoneOf, OnlyAbove, is_above, may_wait, may_wait_for, meets}
+use Rattle.tb_core.specs.Needing.{NoStartWaits, NoneNeeds, NoneOf, OnlyAbove, is_above, may_wait, may_wait_for, meets}
 use Rattle.tb_steps.specs.Scans.{AreLegal, history_of, step_at}
+use Rattle.tb_core.proofs.LendingLemmas.{items_in_front, spawned_at, spawned_before, spawned_in}
 use Rattle.tb_steps.proofs.FirstLemmas.{front_legal, there, none_next}
-use Rattle.tb_steps.proofs.ScanLemmas.{history_cut}
 use Rattle.tb_steps.proofs.NeedsLemmas.{held_within, member_within}
 
 -- ---- what each part of the test says
@@ -124,43 +124,9 @@ ended_meets Open v h = absurd (true≢false (sym h))
 ended_meets Close v h = absurd (true≢false (sym h))
 ended_meets (Test b) v h = absurd (true≢false (sym h))
 
-meets_none : (test : Relation → Bool) (new : List Item) → some_meet test new [] ≡ false
-meets_none test [] = refl
-meets_none test (i ∷ new) = meets_none test new
-
-none_met : (a b p q r : Bool) → p ≡ false → q ≡ false → r ≡ false → ((a && p) || ((a && q) || (b && r))) ≡ false
-none_met true true p q r x y z = rw (x, y, z) refl
-none_met true false p q r x y z = rw (x, y) refl
-none_met false true p q r x y z = rw z refl
-none_met false false p q r x y z = refl
-
--- a start waits for no task without depend items
-no_start_waits : (H : History) (t u : Name) → items_of u H ≡ [] → waits_for H t Start u ≡ false
-no_start_waits H t u none =
-    none_met (is_elder u t) (is_elder t u) _ _ _
-    (ap (λ (its : List Item). some_meet is_before (items_of t H) its) none ∙ meets_none is_before (items_of t H))
-    (ap (λ (its : List Item). some_meet is_apart (items_of t H) its) none ∙ meets_none is_apart (items_of t H))
-    (ap (λ (its : List Item). some_meet is_apart its (items_of t H)) none)
-
--- what was no item of the task later wasn't one before
-none_before : (t : Name) (b front : History) → items_of t (b ++ front) ≡ [] → items_of t front ≡ []
-none_before t [] front h = h
-none_before t (v ∷ b) front h = none_before t b front (rest (items_for t v.action) _ h)
-  where
-    rest : (xs ys : List Item) → xs ++ ys ≡ [] → ys ≡ []
-    rest [] ys none = none
-    rest (x ∷ xs) ys none = let more : suc (length (xs ++ ys)) ≡ 0 = ap length none in absurd (omega (arith, more))
-
-pub none_in_front : (entries : List Entry) (next : ℕ) (w : Entry) (t : Name) → next < length entries → w ≡ get_or entries next w
-    → items_of t (history_of entries) ≡ [] → items_of t (history_of (take next entries)) ≡ []
-none_in_front entries next w t inside there none =
-    none_before t (w.event ∷ []) (history_of (take next entries))
-    (none_before t (history_of (drop (suc next) entries)) (w.event ∷ history_of (take next entries))
-    (sym (ap (items_of t) (history_cut entries next w inside there)) ∙ none))
-
-waits_none : (some : Bool) (H : History) (t : Name) (a : Action) (u : Name) → (some ≡ false → items_of u H ≡ []) → may_wait some a ≡ false
+waits_none : (some : Bool) (H : History) (t : Name) (a : Action) (u : Name) → (some ≡ false → waits_for H t Start u ≡ false) → may_wait some a ≡ false
     → waits_for H t a u ≡ false
-waits_none some H t Start u none h = no_start_waits H t u (none h)
+waits_none some H t Start u none h = none h
 waits_none some H t (Wait items) u none h = absurd (true≢false h)
 waits_none some H t Close u none h = absurd (true≢false h)
 waits_none some H t (Let r x) u none h = refl
@@ -186,8 +152,9 @@ no_wait a b c d e x y pa pb pc px py pe = rw (pa, pb, pc, px, py, pe) (ap (λ z.
 
 -- the stored step may not need the end
 end_not_needed : (some : Bool) (front : List Entry) (v u : Event) → AreLegal front → is_end u.action ≡ true
-    → (some ≡ false → items_of u.task (history_of front) ≡ []) → may_wait_for some v.action v.task u.task ≡ false → needs (history_of front) v u ≡ false
-end_not_needed some front v u legal ends no_items none =
+    → (some ≡ false → waits_for (history_of front) v.task Start u.task ≡ false) → may_wait_for some v.action v.task u.task ≡ false
+    → needs (history_of front) v u ≡ false
+end_not_needed some front v u legal ends no_start none =
     let H = history_of front in
     let p = apart u.action v (ended_meets u.action v ends) in
     let names = second_false (may_wait some v.action) _ none in
@@ -195,26 +162,43 @@ end_not_needed some front v u legal ends no_items none =
     λ b. elim b as (λ b. holds (own v.task H) u.task ≡ b → b ≡ false) [ false ↦ λ _. refl | true ↦ λ h. absurd (true≢false (sym (held_within front v.task u.task legal h) ∙ first_false (is_child v.task u.task) _ names)) ] in
     no_wait (is_of v.task u) (is_spawn_of v.task u.action) (conflicts v.action u.action) (is_end u.action) (is_print v.action && is_print u.action) (holds (own v.task H) u.task) (waits_for H v.task v.action u.task)
     (other_way v.task u.task (second_false (is_child v.task u.task) _ names)) p.spawns (conflict_none v.action u.action p.cells) (held (holds (own v.task H) u.task) refl)
-    (waits_none some H v.task v.action u.task no_items (first_false (may_wait some v.action) _ none)) p.prints
+    (waits_none some H v.task v.action u.task no_start (first_false (may_wait some v.action) _ none)) p.prints
 
 -- one stored step more
-pub none_waits : (some : Bool) (entries : List Entry) (at from next : ℕ) (u w : Entry) → AreLegal entries → at < length entries → next < length entries
+pub none_waits : (some : Bool) (entries : List Entry) (at from next : ℕ) (u w : Entry) → AreLegal entries → at < from → from ≤ next → next < length entries
     → u ≡ get_or entries at u → w ≡ get_or entries next w → is_end u.event.action ≡ true
-    → (some ≡ false → items_of u.event.task (history_of entries) ≡ []) → may_wait_for some w.event.action w.event.task u.event.task ≡ false → NoneNeeds entries at from next → NoneNeeds entries at from (next + 1)
-none_waits some entries at from next u w legal within inside here there ends no_items apart none k v x low high v_there x_there = by (ltb k next) refl
+    → (some ≡ false → NoStartWaits entries at) → may_wait_for some w.event.action w.event.task u.event.task ≡ false → NoneNeeds entries at from next → NoneNeeds entries at from (next + 1)
+none_waits some entries at from next u w legal behind order inside here there ends no_start apart none k v x low high v_there x_there = by (ltb k next) refl
   where
     by : (b : Bool) → ltb k next ≡ b → needs (history_of (take k entries)) v.event x.event ≡ false
     by true t = none k v x low (ltb-true k next t) v_there x_there
     by false f =
         let same : k ≡ next = omega (arith, high, ltb-false k next f) in
-        let one : u ≡ x = here ∙ get_or_default entries at u x within ∙ sym x_there in
+        let one : u ≡ x = here ∙ get_or_default entries at u x (omega (arith, behind, order, inside)) ∙ sym x_there in
         let other : w ≡ v = there ∙ get_or_default entries next w v inside ∙ ap (λ n. get_or entries n v) (sym same) ∙ sym v_there in
         subst (λ n. needs (history_of (take n entries)) v.event x.event ≡ false) (sym same)
         (subst (λ (y : Entry). needs (history_of (take next entries)) v.event y.event ≡ false) one
         (subst (λ (y : Entry). needs (history_of (take next entries)) y.event u.event ≡ false) other
-        (end_not_needed some (take next entries) w.event u.event (front_legal entries next w inside there legal) ends (λ h. none_in_front entries next w u.event.task inside there (no_items h)) apart)))
+        (end_not_needed some (take next entries) w.event u.event (front_legal entries next w inside there legal) ends (λ h. no_start h next w u (omega (arith, behind, order)) inside there here) apart)))
 
--- ---- the end of a task without depend items is needed by the task and by those above it alone
+-- ---- whether starts wait, by all entries and by those in front of a place
+
+pub by_items : (H K : History) (t u : Name) → items_of t H ≡ items_of t K → items_of u H ≡ items_of u K → waits_for H t Start u ≡ waits_for K t Start u
+by_items H K t u new old =
+    ap₂ (λ (xs ys : List Item). (is_elder u t && some_meet is_before xs ys) || ((is_elder u t && some_meet is_apart xs ys) || (is_elder t u && some_meet is_apart ys xs))) new old
+
+pub no_start : (entries : List Entry) (at : ℕ) (task : Name) → AreLegal entries → ((u : Entry) → u ≡ get_or entries at u → task ≡ u.event.task)
+    → ((t : Name) → IsSpawned (history_of entries) task → IsSpawned (history_of entries) t → waits_for (history_of entries) t Start task ≡ false) → NoStartWaits entries at
+no_start entries at task legal read none k v u behind inside v_there u_there =
+    let front = history_of (take k entries) in
+    let within : at < length entries = omega (arith, behind, inside) in
+    let same : task ≡ u.event.task = read u u_there in
+    let all = none v.event.task (subst (λ (t : Name). IsSpawned (history_of entries) t) (sym same) (spawned_in entries at u within u_there legal)) (spawned_in entries k v inside v_there legal) in
+    sym (by_items (history_of entries) front v.event.task u.event.task (items_in_front entries k v.event.task legal (spawned_at entries k v inside v_there legal))
+    (items_in_front entries k u.event.task legal (spawned_before entries k at v u behind inside v_there u_there legal)))
+    ∙ subst (λ (t : Name). waits_for (history_of entries) v.event.task Start t ≡ false) same all
+
+-- ---- an end for which no start waits is needed by its task and by those above it alone
 
 within_self : (t : Name) → is_within t t ≡ true
 within_self [] = refl
@@ -232,9 +216,9 @@ not_so true w h out = absurd (true≢false (sym (h refl) ∙ out))
 no_child : (t u : Name) → is_within t u ≡ false → is_child t u ≡ false
 no_child t u out = not_so (is_child t u) (is_within t u) (child_within t u) out
 
-below_waits : (front : List Entry) (t : Name) (a : Action) (u : Name) → AreLegal front → items_of u (history_of front) ≡ [] → is_within t u ≡ false
-    → waits_for (history_of front) t a u ≡ false
-below_waits front t Start u legal none out = no_start_waits (history_of front) t u none
+below_waits : (front : List Entry) (t : Name) (a : Action) (u : Name) → AreLegal front → waits_for (history_of front) t Start u ≡ false
+    → is_within t u ≡ false → waits_for (history_of front) t a u ≡ false
+below_waits front t Start u legal none out = none
 below_waits front t (Wait items) u legal none out = ap (λ b. b && (has_no_items items || some_meet is_before items (items_of u (history_of front)))) (no_child t u out)
 below_waits front t Close u legal none out = not_so (is_member (own t (history_of front)) u) (is_within t u) (member_within front t u legal) out
 below_waits front t (Let r x) u legal none out = refl
@@ -247,7 +231,7 @@ below_waits front t (Test b) u legal none out = refl
 below_waits front t End u legal none out = refl
 below_waits front t Fault u legal none out = refl
 
-below_needs : (front : List Entry) (v u : Event) → AreLegal front → is_end u.action ≡ true → items_of u.task (history_of front) ≡ []
+below_needs : (front : List Entry) (v u : Event) → AreLegal front → is_end u.action ≡ true → waits_for (history_of front) v.task Start u.task ≡ false
     → is_within v.task u.task ≡ false → needs (history_of front) v u ≡ false
 below_needs front v u legal ends none out =
     let H = history_of front in
@@ -260,14 +244,14 @@ below_needs front v u legal ends none out =
     (below_waits front v.task v.action u.task legal none out) p.prints
 
 needer_above : (entries : List Entry) (k : ℕ) (v u : Entry) → AreLegal entries → k < length entries → v ≡ get_or entries k v → is_end u.event.action ≡ true
-    → items_of u.event.task (history_of entries) ≡ [] → needs (history_of (take k entries)) v.event u.event ≡ true
+    → waits_for (history_of (take k entries)) v.event.task Start u.event.task ≡ false → needs (history_of (take k entries)) v.event u.event ≡ true
     → is_within v.event.task u.event.task ≡ true
 needer_above entries k v u legal inside there ends none needed = by (is_within v.event.task u.event.task) refl
   where
     by : (b : Bool) → is_within v.event.task u.event.task ≡ b → b ≡ true
     by true e = refl
     by false e =
-        let alone = below_needs (take k entries) v.event u.event (front_legal entries k v inside there legal) ends (none_in_front entries k v u.event.task inside there none) e in
+        let alone = below_needs (take k entries) v.event u.event (front_legal entries k v inside there legal) ends none e in
         absurd (true≢false (sym needed ∙ alone))
 
 -- who is above the task and not the task itself is its parent or above that
@@ -276,13 +260,13 @@ one_up [] s above other = absurd (true≢false (sym above ∙ other))
 one_up (n ∷ t) s above other = subst (λ b. (b || is_within s t) ≡ true) other above
 
 -- where the task itself takes no step, its parent and those above that are left
-pub from_parent : (entries : List Entry) (at from to : ℕ) (u : Entry) → AreLegal entries → at < length entries → to ≤ length entries
-    → u ≡ get_or entries at u → is_end u.event.action ≡ true → items_of u.event.task (history_of entries) ≡ []
+pub from_parent : (entries : List Entry) (at from to : ℕ) (u : Entry) → AreLegal entries → at < length entries → at < from → to ≤ length entries
+    → u ≡ get_or entries at u → is_end u.event.action ≡ true → NoStartWaits entries at
     → IsNoneBetween (is_of u.event.task) entries from to → OnlyAbove (parent u.event.task) entries at from to
-from_parent entries at from to u legal within high here ends no_items none k v x low l v_there x_there needed =
+from_parent entries at from to u legal within behind high here ends no_start none k v x low l v_there x_there needed =
     let one : x ≡ u = x_there ∙ sym (get_or_default entries at u x within) ∙ sym here in
     let needed_u = subst (λ (y : Entry). needs (history_of (take k entries)) v.event y.event ≡ true) one needed in
-    one_up u.event.task v.event.task (needer_above entries k v u legal (omega (arith, l, high)) v_there ends no_items needed_u) (none k v low l v_there)
+    one_up u.event.task v.event.task (needer_above entries k v u legal (omega (arith, l, high)) v_there ends (no_start k v u (omega (arith, behind, low)) (omega (arith, l, high)) v_there here) needed_u) (none k v low l v_there)
 
 -- one task more that has no step that needs it
 pub next_parent : (entries : List Entry) (at from last to : ℕ) (t : Name) → to ≤ last → OnlyAbove (Some t) entries at from last → NoneOf t entries at from to

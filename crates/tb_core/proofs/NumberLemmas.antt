@@ -27,7 +27,8 @@ first_within : (p : Name → Bool) (names : List Name) → list_any p names ≡ 
 first_within p [] h = absurd (false≢true h)
 first_within p (t ∷ names) h = by (first_within p names) (p t) refl h
   where
-    by : (list_any p names ≡ true → position_or_len p names < length names) → (b : Bool) → p t ≡ b → (p t || list_any p names) ≡ true → cond (not (p t)) (1 + position_or_len p names) 0 < suc (length names)
+    by : (list_any p names ≡ true → position_or_len p names < length names) → (b : Bool) → p t ≡ b → (p t || list_any p names) ≡ true
+        → cond (not (p t)) (1 + position_or_len p names) 0 < suc (length names)
     by rest true e h = subst (λ n. n < suc (length names)) (sym (ap (λ b. cond (not b) (1 + position_or_len p names) 0) e)) (omega arith)
     by rest false e h =
         let below = rest (sym (ap (λ b. b || list_any p names) e) ∙ h) in
@@ -46,7 +47,8 @@ kin_place tasks t k e = any_place tasks t (sym (is_some-lookup (same_name t) tas
     by (Some s) h = ap is_some h
 
 -- the task of an event that may follow has an ordinal
-pub named_next : (first : Cells) (root_line limit : ℕ) (es : List Entry) (tables : Tables) → IsSound first root_line limit (reverse es) tables → (s : Seen) → seen first root_line limit (reverse es) ≡ s → (v : Event)
+pub named_next : (first : Cells) (root_line limit : ℕ) (es : List Entry) (tables : Tables) → IsSound first root_line limit (reverse es) tables → (s : Seen)
+    → seen first root_line limit (reverse es) ≡ s → (v : Event)
     → MayFollow s.cells (history s) v → IsNamed (names_in tables) v
 named_next first root_line limit es tables sound s is v may =
     let H = events_of (map departure (reverse es)) in
@@ -55,10 +57,12 @@ named_next first root_line limit es tables sound s is v may =
 
 -- ---- numbers stay
 
-pub index_kept : (old new : Tables) (es : List Event) (p : Places) → KeepsNames old.waits.tasks new.waits.tasks → IsIndexOf (names_in old) es p → IsIndexOf (names_in new) es p
+pub index_kept : (old new : Tables) (es : List Event) (p : Places) → KeepsNames old.waits.tasks new.waits.tasks → IsIndexOf (names_in old) es p
+    → IsIndexOf (names_in new) es p
 index_kept old new es p keeps index = subst (λ names. IsIndexOf names es p) (sym keeps.1) (index_grown (names_in old) keeps.0 es p index)
 
 -- the capacity for an index serves also where more names have come
-pub room_along : (old new : Tables) (p : Places) (v : Event) → KeepsNames old.waits.tasks new.waits.tasks → IsNamed (names_in old) v → HasRoomFor (names_in old) p v → HasRoomFor (names_in new) p v
+pub room_along : (old new : Tables) (p : Places) (v : Event) → KeepsNames old.waits.tasks new.waits.tasks → IsNamed (names_in old) v
+    → HasRoomFor (names_in old) p v → HasRoomFor (names_in new) p v
 room_along old new p v keeps named room =
     subst (λ names. HasRoomFor names p v) (sym keeps.1) (subst (λ n. HasRoomAs p n v.action) (sym (number_grown (names_in old) keeps.0 v.task named)) room)

@@ -28,7 +28,8 @@ use Rattle.tb_core.proofs.StoredLemmas.{made, same_event, same_record}
 use Rattle.tb_core.proofs.StoringLemmas.{all_kept, zip_remove}
 use Rattle.tb_core.proofs.UndoneLemmas.{place_within, step_here, stands_there, left_sound, takes_back}
 
-module _ (first : Cells) (root_line limit : ℕ) (ss : List Stored) (tables : Tables) (sound : IsSound first root_line limit (reverse (entries_in tables ss)) tables) (z : AllZip (IsStored (names_in tables)) ss (entries_in tables ss))
+module _ (first : Cells) (root_line limit : ℕ) (ss : List Stored) (tables : Tables)
+    (sound : IsSound first root_line limit (reverse (entries_in tables ss)) tables) (z : AllZip (IsStored (names_in tables)) ss (entries_in tables ss))
     (i : StepId) (at : ℕ) (s : Seen) (view : seen first root_line limit (reverse (entries_in tables ss)) ≡ s) (free : IsFree s i) (place : IsPlaceOfStep s i at) where
   abbrev es : List Entry
   es = entries_in tables ss
@@ -71,7 +72,8 @@ module _ (first : Cells) (root_line limit : ℕ) (ss : List Stored) (tables : Ta
     abbrev told : Event → Removed
     told v = record { id = record { task = v.task; k = i.k }; action = v.action }
 
-    pub out : (new : Tables) (left : List Stored) (xs : List Entry) (going : List ℕ) (p : Places) → left ≡ remove ss at → xs ≡ es → going ≡ at ∷ [] → KeepsNames tables.waits.tasks new.waits.tasks
+    pub out : (new : Tables) (left : List Stored) (xs : List Entry) (going : List ℕ) (p : Places) → left ≡ remove ss at → xs ≡ es → going ≡ at ∷ []
+        → KeepsNames tables.waits.tasks new.waits.tasks
         → IsWithout tables (made i.task x.action) (replaced_stored x) new → IsIndexOf (names_in tables) (left_from 0 going (events_in xs)) p → Out new left p
     out new left xs going p removed same one_goes keeps without index =
         let w : IsWithout tables e.event (replaced_in e) new = subst (λ r. IsWithout tables e.event r new) its_record (subst (λ v. IsWithout tables v (replaced_stored x) new) its_event without) in

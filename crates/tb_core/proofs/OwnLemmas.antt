@@ -29,7 +29,8 @@ record IsNth (n : ℕ) (p : Event → Bool) (es : List Entry) (j at : ℕ) : Typ
   passes : p entry.event ≡ true
   count : length (filter p (events_in (take index es))) ≡ j
 
-behind_one : (n : ℕ) (p : Event → Bool) (x : Entry) (es : List Entry) (j k at : ℕ) → length (cond (p x.event) (x.event ∷ []) []) + j ≡ k → IsNth (n + 1) p es j at → IsNth n p (x ∷ es) k at
+behind_one : (n : ℕ) (p : Event → Bool) (x : Entry) (es : List Entry) (j k at : ℕ) → length (cond (p x.event) (x.event ∷ []) []) + j ≡ k
+    → IsNth (n + 1) p es j at → IsNth n p (x ∷ es) k at
 behind_one n p x es j k at count r = record {
   index = suc r.index;
   entry = r.entry;
@@ -40,7 +41,8 @@ behind_one n p x es j k at count r = record {
   count = more (p x.event) count;
 }
   where
-    more : (b : Bool) → length (cond b (x.event ∷ []) []) + j ≡ k → length (cond b (x.event ∷ filter p (events_in (take r.index es))) (filter p (events_in (take r.index es)))) ≡ k
+    more : (b : Bool) → length (cond b (x.event ∷ []) []) + j ≡ k
+        → length (cond b (x.event ∷ filter p (events_in (take r.index es))) (filter p (events_in (take r.index es)))) ≡ k
     more true h = omega (arith, h, r.count)
     more false h = omega (arith, h, r.count)
 
@@ -51,7 +53,8 @@ nth n p [] j at h = absurd (none h)
     none e = cc
 nth n p (x ∷ es) j at h = by (p x.event) refl j (sym (ap (λ l. slice_get l j) (places_cons n p x.event (events_in es))) ∙ h) (λ i. nth (n + 1) p es i at)
   where
-    by : (b : Bool) → p x.event ≡ b → (k : ℕ) → slice_get (cond (p x.event) (n ∷ places_from (n + 1) p (events_in es)) (places_from (n + 1) p (events_in es))) k ≡ Some at
+    by : (b : Bool) → p x.event ≡ b → (k : ℕ)
+        → slice_get (cond (p x.event) (n ∷ places_from (n + 1) p (events_in es)) (places_from (n + 1) p (events_in es))) k ≡ Some at
         → ((i : ℕ) → slice_get (places_from (n + 1) p (events_in es)) i ≡ Some at → IsNth (n + 1) p es i at) → IsNth n p (x ∷ es) k at
     by false f k g rest =
         behind_one n p x es k k at (ap (λ b. length (cond b (x.event ∷ []) []) + k) f ∙ omega arith)
@@ -70,7 +73,8 @@ own_append : (t : Name) (G H : History) → length (own t (G ++ H)) ≡ length (
 own_append t [] H = omega arith
 own_append t (v ∷ G) H = by (is_of t v) (own_append t G H)
   where
-    by : (b : Bool) → length (own t (G ++ H)) ≡ length (own t G) + length (own t H) → length (prepend_if b v.action (own t (G ++ H))) ≡ length (prepend_if b v.action (own t G)) + length (own t H)
+    by : (b : Bool) → length (own t (G ++ H)) ≡ length (own t G) + length (own t H)
+        → length (prepend_if b v.action (own t (G ++ H))) ≡ length (prepend_if b v.action (own t G)) + length (own t H)
     by true h = omega (arith, h)
     by false h = h
 
@@ -109,7 +113,8 @@ module _ (es : List Entry) (own_places : List ℕ) (i : StepId) (is : own_places
   places_counted = ap length is ∙ places_count 0 (is_of i.task) (events_in es) ∙ sym (own_count i.task es)
 
   -- a step that is there has an ordinal, and its index is there
-  pub own_at : (b : Bool) (d : ℕ) → ((H : History) → length own_places ≡ length (own i.task H) → b ≡ stands i H) → b ≡ true → IsOwn (get_or own_places (i.k - 1) d)
+  pub own_at : (b : Bool) (d : ℕ) → ((H : History) → length own_places ≡ length (own i.task H) → b ≡ stands i H) → b ≡ true
+      → IsOwn (get_or own_places (i.k - 1) d)
   own_at b d test there =
       let n = numbered i (history_of es) (sym (test (history_of es) places_counted) ∙ there) in
       own_step (i.k - 1) (get_or own_places (i.k - 1) d) (omega (arith, n.0)) (slice_get-get_or own_places (i.k - 1) d (omega (arith, n.0, n.1, places_counted)))
@@ -121,7 +126,8 @@ module _ (es : List Entry) (own_places : List ℕ) (i : StepId) (is : own_places
 
 -- ---- the ordinal of the step at an index
 
-module _ (es : List Entry) (own_places : List ℕ) (at : ℕ) (e : Entry) (is : own_places ≡ places_where (is_of e.event.task) (events_in es)) (within : at < length es) (here : e ≡ get_or es at e) where
+module _ (es : List Entry) (own_places : List ℕ) (at : ℕ) (e : Entry) (is : own_places ≡ places_where (is_of e.event.task) (events_in es))
+    (within : at < length es) (here : e ≡ get_or es at e) where
   -- it is one more than how many of its task's indexes come in front of it
   pub own_number : (j : ℕ) (d : ℕ) → j < length own_places → get_or own_places j d ≡ at → (id : StepId) → step_at es at ≡ Some id → j + 1 ≡ id.k
   own_number j d inside there id step =

@@ -35,7 +35,8 @@ names_counted : (cells : Cells) (H : History) → Legal cells H → AllByRecursi
 names_counted cells [] l = (tt, tt)
 names_counted cells (v ∷ H) l = at v.action l.1.own (names_counted cells H l.0)
   where
-    at : (a : Action) → Continues cells v.task (own v.task H) a → AllByRecursion IsCounted (spawned_names H) → AllByRecursion IsCounted (with_child a (spawned_names H))
+    at : (a : Action) → Continues cells v.task (own v.task H) a → AllByRecursion IsCounted (spawned_names H)
+        → AllByRecursion IsCounted (with_child a (spawned_names H))
     at (Spawn s) k all = (subst IsCounted (sym k.1) (omega arith), all)
     at _ k all = all
 

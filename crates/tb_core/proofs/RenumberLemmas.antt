@@ -18,14 +18,16 @@ use Rattle.tb_core.specs.Renumbering.{events_in, Refills, Cuts}
 
 -- ---- nothing goes in front of the first
 
-pub left_front : {X : Type 0} (k n : ℕ) (gs : List ℕ) (es : List X) → ((at : ℕ) → at < k + n → goes_at at gs ≡ false) → take n es ++ left_from (k + n) gs (drop n es) ≡ left_from k gs es
+pub left_front : {X : Type 0} (k n : ℕ) (gs : List ℕ) (es : List X) → ((at : ℕ) → at < k + n → goes_at at gs ≡ false)
+    → take n es ++ left_from (k + n) gs (drop n es) ≡ left_from k gs es
 left_front k zero gs es none = ap (λ j. left_from j gs es) (omega arith)
 left_front k (suc n) gs [] none = refl
 left_front k (suc n) gs (e ∷ es) none =
     ap (λ l. e ∷ l) (ap (λ j. take n es ++ left_from j gs (drop n es)) (omega arith) ∙ left_front (k + 1) n gs es (λ at below. none at (omega (arith, below))))
     ∙ sym (ap (λ b. if b then left_from (k + 1) (drop 1 gs) es else e ∷ left_from (k + 1) gs es) (none k (omega arith)))
 
-pub left_whole : {X : Type 0} (n : ℕ) (gs : List ℕ) (es : List X) → ((at : ℕ) → at < n → goes_at at gs ≡ false) → take n es ++ left_from n gs (drop n es) ≡ left_from 0 gs es
+pub left_whole : {X : Type 0} (n : ℕ) (gs : List ℕ) (es : List X) → ((at : ℕ) → at < n → goes_at at gs ≡ false)
+    → take n es ++ left_from n gs (drop n es) ≡ left_from 0 gs es
 left_whole n gs es none = ap (λ j. take n es ++ left_from j gs (drop n es)) (omega arith) ∙ left_front 0 n gs es (λ at below. none at (omega (arith, below)))
 
 -- ---- what is left of the indexes that go
@@ -225,7 +227,8 @@ drop_one (suc n) (m ∷ ns) =
     let same : suc (n + 1) ≡ suc n + 1 = omega arith in
     drop_one n ns ∙ ap (λ k. drop k (m ∷ ns)) same
 
-module _ (names : List Name) (first : ℕ) (es : List Entry) (at k : ℕ) (x : Entry) (old new : Places) (cuts : Cuts names first (events_in es) at old) (more : first < at) (before : at ≡ suc k) (here : x ≡ get_or es k x) where
+module _ (names : List Name) (first : ℕ) (es : List Entry) (at k : ℕ) (x : Entry) (old new : Places) (cuts : Cuts names first (events_in es) at old)
+    (more : first < at) (before : at ≡ suc k) (here : x ≡ get_or es k x) where
   abbrev whole_events : List Event
   whole_events = events_in es
 
@@ -236,7 +239,8 @@ module _ (names : List Name) (first : ℕ) (es : List Entry) (at k : ℕ) (x : E
   front = ap (λ n. take n whole_events) before ∙ take_last es k x inside here
 
   -- the newest of the stored steps is taken off
-  pub cuts_more : ((events : List Event) → IsIndexOf names (events ++ x.event ∷ []) old → IsIndexOf names events new) → KeepsRoom old new → Cuts names first whole_events k new
+  pub cuts_more : ((events : List Event) → IsIndexOf names (events ++ x.event ∷ []) old → IsIndexOf names events new) → KeepsRoom old new
+      → Cuts names first whole_events k new
   cuts_more popped keeps = record {
     from = omega (arith, more, before);
     within = omega (arith, before, cuts.within);
@@ -250,7 +254,8 @@ all_taken zero (e ∷ es) h = absurd (omega (arith, h))
 all_taken (suc n) [] h = absurd (omega (arith, h))
 all_taken (suc n) (e ∷ es) h = ap (λ l. e ∷ l) (all_taken n es (omega (arith, h)))
 
-pub cuts_first : (names : List Name) (first : ℕ) (es : List Event) (n : ℕ) (p : Places) → first ≤ n → n ≡ length es → IsIndexOf names es p → Cuts names first es n p
+pub cuts_first : (names : List Name) (first : ℕ) (es : List Event) (n : ℕ) (p : Places) → first ≤ n → n ≡ length es → IsIndexOf names es p
+    → Cuts names first es n p
 cuts_first names first es n p from whole index = record {
   from = from;
   within = omega (arith, whole);
@@ -258,7 +263,8 @@ cuts_first names first es n p from whole index = record {
   room = room_of_index names es p index;
 }
 
-module _ (names : List Name) (first : ℕ) (going : List ℕ) (es : List Entry) (at next place : ℕ) (p : Places) (r : Refills names first going (events_in es) at next place p) (within : at < length es) (x : Entry) (here : x ≡ get_or es at x) where
+module _ (names : List Name) (first : ℕ) (going : List ℕ) (es : List Entry) (at next place : ℕ) (p : Places)
+    (r : Refills names first going (events_in es) at next place p) (within : at < length es) (x : Entry) (here : x ≡ get_or es at x) where
   rest_is : drop at (events_in es) ≡ x.event ∷ drop (suc at) (events_in es)
   rest_is = drop_next es at x within here
 
@@ -294,7 +300,9 @@ module _ (names : List Name) (first : ℕ) (going : List ℕ) (es : List Entry) 
   }
 
   -- it stays
-  pub refills_kept : (new : Places) → goes_at at (drop next going) ≡ false → ((events : List Event) → IsIndexOf names events p → place ≡ length events → IsIndexOf names (events ++ x.event ∷ []) new) → KeepsRoom p new → Refills names first going (events_in es) (at + 1) next (place + 1) new
+  pub refills_kept : (new : Places) → goes_at at (drop next going) ≡ false
+      → ((events : List Event) → IsIndexOf names events p → place ≡ length events → IsIndexOf names (events ++ x.event ∷ []) new) → KeepsRoom p new
+      → Refills names first going (events_in es) (at + 1) next (place + 1) new
   refills_kept new stays pushed keeps = record {
     done = r.done ++ x.event ∷ [];
     index = pushed r.done r.index r.count;
@@ -314,7 +322,8 @@ module _ (names : List Name) (first : ℕ) (going : List ℕ) (es : List Entry) 
 
 -- ---- where the loop begins and ends
 
-pub refills_first : (names : List Name) (first : ℕ) (going : List ℕ) (events : List Event) (p : Places) → first ≤ length events → IsIndexOf names (take first events) p → HasRoomForAll names events p → Refills names first going events first 0 first p
+pub refills_first : (names : List Name) (first : ℕ) (going : List ℕ) (events : List Event) (p : Places) → first ≤ length events
+    → IsIndexOf names (take first events) p → HasRoomForAll names events p → Refills names first going events first 0 first p
 refills_first names first going events p within index room = record {
   done = take first events;
   index = index;
@@ -330,7 +339,8 @@ none_behind zero (e ∷ es) h = absurd (omega (arith, h))
 none_behind (suc n) [] h = refl
 none_behind (suc n) (e ∷ es) h = none_behind n es (omega (arith, h))
 
-pub refills_last : (names : List Name) (first : ℕ) (going : List ℕ) (events : List Event) (at next place : ℕ) (p : Places) → length events ≤ at → Refills names first going events at next place p
+pub refills_last : (names : List Name) (first : ℕ) (going : List ℕ) (events : List Event) (at next place : ℕ) (p : Places) → length events ≤ at
+    → Refills names first going events at next place p
     → IsIndexOf names (take first events ++ left_from first going (drop first events)) p
 refills_last names first going events at next place p past r =
     subst (λ l. IsIndexOf names l p)

@@ -46,7 +46,9 @@ events_kept e (w ∷ later) front =
     prepended false = refl
 
 -- a stored step of a sound list that nothing after it needs is taken out
-module _ (first : Cells) (root_line limit : ℕ) (later front : List Entry) (u : Entry) (tables : Tables) (sound : IsSound first root_line limit (later ++ u ∷ front) tables) (free : IsUnneeded (step_of (events front) u.event) (events later ++ u.event ∷ events front)) where
+module _ (first : Cells) (root_line limit : ℕ) (later front : List Entry) (u : Entry) (tables : Tables)
+    (sound : IsSound first root_line limit (later ++ u ∷ front) tables)
+    (free : IsUnneeded (step_of (events front) u.event) (events later ++ u.event ∷ events front)) where
   abbrev whole : List Departure
   whole = map departure later ++ departure u ∷ map departure front
 
@@ -92,7 +94,8 @@ places_below e (v ∷ H) = at (is_removed e H v) (raised (removed_places e H) (p
     raised [] a = tt
     raised (p ∷ ps) a = (omega (arith, a.0), raised ps a.1)
 
-    at : (b : Bool) → AllByRecursion (λ p. p < suc (length H)) (removed_places e H) → AllByRecursion (λ p. p < suc (length H)) (prepend_if b (length H) (removed_places e H))
+    at : (b : Bool) → AllByRecursion (λ p. p < suc (length H)) (removed_places e H)
+        → AllByRecursion (λ p. p < suc (length H)) (prepend_if b (length H) (removed_places e H))
     at true a = (omega arith, a)
     at false a = a
 
@@ -120,13 +123,15 @@ module _ (e : StepId) (v : Event) (H : History) (ps : List ℕ) (at : ℕ) (left
       first_same : (x y : ℕ) (xs ys : List ℕ) → x ∷ xs ≡ y ∷ ys → x ≡ y
       first_same x y xs ys z = cc
 
-      by : (b : Bool) → is_removed e H v ≡ b → prepend_if b (length H) rest ≡ at ∷ reverse ps → (is_removed e H v ≡ false) × (at < length H) × (ps ++ at ∷ [] ≡ reverse rest)
+      by : (b : Bool) → is_removed e H v ≡ b → prepend_if b (length H) rest ≡ at ∷ reverse ps
+          → (is_removed e H v ≡ false) × (at < length H) × (ps ++ at ∷ [] ≡ reverse rest)
       by true q f = absurd (h (sym (first_same (length H) at rest (reverse ps) f)))
       by false q f = (q, below f, left ∙ ap (λ b. reverse (prepend_if b (length H) rest)) q)
 
 -- ---- nothing is taken off yet
 
-pub first_unwinds : (r : Rollback) (old : List Entry) (qs : List ℕ) (steps : List StepId) (removed : List Removed) → IsOfHistory (events (reverse old)) r → removed ≡ [] → qs ≡ r.places.items → steps ≡ r.steps.items → Unwinds r.step old old [] qs steps removed
+pub first_unwinds : (r : Rollback) (old : List Entry) (qs : List ℕ) (steps : List StepId) (removed : List Removed) → IsOfHistory (events (reverse old)) r
+    → removed ≡ [] → qs ≡ r.places.items → steps ≡ r.steps.items → Unwinds r.step old old [] qs steps removed
 first_unwinds r old qs steps removed ready none places names = record {
   later = [];
   parts = refl;
@@ -173,7 +178,9 @@ gone_more e (w ∷ later) u front =
     prepended false = refl
 
 -- the newest stored step is taken off
-module _ (e : StepId) (old es es' : List Entry) (o : Option Entry) (u : Entry) (off : es ≡ es' ++ option_to_list o) (got : o ≡ Some u) (kept : List Entry) (ps : List ℕ) (next : Option ℕ) (at : ℕ) (is : next ≡ Some at) (steps : List StepId) (removed : List Removed) (invariant : Unwinds e old es kept (ps ++ option_to_list next) steps removed) where
+module _ (e : StepId) (old es es' : List Entry) (o : Option Entry) (u : Entry) (off : es ≡ es' ++ option_to_list o) (got : o ≡ Some u) (kept : List Entry)
+    (ps : List ℕ) (next : Option ℕ) (at : ℕ) (is : next ≡ Some at) (steps : List StepId) (removed : List Removed)
+    (invariant : Unwinds e old es kept (ps ++ option_to_list next) steps removed) where
   popped : es ≡ es' ++ u ∷ []
   popped = off ∙ ap (λ x. es' ++ option_to_list x) got
 
@@ -225,7 +232,8 @@ module _ (e : StepId) (old es es' : List Entry) (o : Option Entry) (u : Entry) (
       steps_left = steps_here ∙ ap (λ b. reverse (prepend_if b (step_of (events front) u.event) (removed_steps e (events front)))) tells.0;
     }
 
-    pub stays_tied : (kept' : List Entry) → kept' ≡ kept ++ u ∷ [] → (before tables : Tables) → StayTied (reverse old) before (kept ++ reverse es) tables → StayTied (reverse old) before (kept' ++ reverse es') tables
+    pub stays_tied : (kept' : List Entry) → kept' ≡ kept ++ u ∷ [] → (before tables : Tables) → StayTied (reverse old) before (kept ++ reverse es) tables
+        → StayTied (reverse old) before (kept' ++ reverse es') tables
     stays_tied kept' more before tables t first root_line limit s =
         subst (λ X. IsSound first root_line limit X tables) (ap (λ X. kept ++ X) newest ∙ sym (append_assoc kept (u ∷ []) front) ∙ ap (λ X. X ++ front) (sym more)) (t first root_line limit s)
 
@@ -244,11 +252,13 @@ module _ (e : StepId) (old es es' : List Entry) (o : Option Entry) (u : Entry) (
     some_step steps' i out tells_some = tells_some (omega (arith, ap length next_step, length-append (reverse (removed_steps e (events front))) (step_of (events front) u.event ∷ [])))
 
     -- and it is the step's
-    pub its_name : (steps' : List StepId) (i : Option StepId) (id : StepId) → steps ≡ steps' ++ option_to_list i → i ≡ Some id → id ≡ step_of (events front) u.event
+    pub its_name : (steps' : List StepId) (i : Option StepId) (id : StepId) → steps ≡ steps' ++ option_to_list i → i ≡ Some id
+        → id ≡ step_of (events front) u.event
     its_name steps' i id out name =
         (same_from_push steps' (reverse (removed_steps e (events front))) id (step_of (events front) u.event) (sym (out ∙ ap (λ x. steps' ++ option_to_list x) name) ∙ next_step)).1
 
-    pub goes : (steps' : List StepId) (i : Option StepId) (id : StepId) → steps ≡ steps' ++ option_to_list i → i ≡ Some id → (removed' : List Removed) → removed' ≡ removed ++ (record { id = id; action = u.event.action }) ∷ []
+    pub goes : (steps' : List StepId) (i : Option StepId) (id : StepId) → steps ≡ steps' ++ option_to_list i → i ≡ Some id → (removed' : List Removed)
+        → removed' ≡ removed ++ (record { id = id; action = u.event.action }) ∷ []
         → (ps' : List ℕ) → ps ≡ ps' → Unwinds e old es' kept ps' steps' removed'
     goes steps' i id out name removed' more ps' fewer =
         let split = out ∙ ap (λ x. steps' ++ option_to_list x) name in
@@ -270,11 +280,13 @@ module _ (e : StepId) (old es es' : List Entry) (o : Option Entry) (u : Entry) (
         subst (λ K. IsUnneeded (step_of (events front) u.event) (K ++ u.event ∷ events front)) (sym (ap events stay_here ∙ events_kept e later (u ∷ front)))
         (one_unneeded e (events later) u.event (events front) tells'.0)
 
-    pub goes_tied : (before tables : Tables) → AreTied (reverse old) before → StayTied (reverse old) before (kept ++ reverse es) tables → Stands tables u.event (replaced_in u)
+    pub goes_tied : (before tables : Tables) → AreTied (reverse old) before → StayTied (reverse old) before (kept ++ reverse es) tables
+        → Stands tables u.event (replaced_in u)
     goes_tied before tables (first, root_line, limit, s) t =
         front_tied first root_line limit kept front u tables (subst (λ X. IsSound first root_line limit (kept ++ X) tables) newest (t first root_line limit s)) alone
 
-    pub gone_tied : (before tables new : Tables) → StayTied (reverse old) before (kept ++ reverse es) tables → IsWithout tables u.event (replaced_in u) new → StayTied (reverse old) before (kept ++ reverse es') new
+    pub gone_tied : (before tables new : Tables) → StayTied (reverse old) before (kept ++ reverse es) tables → IsWithout tables u.event (replaced_in u) new
+        → StayTied (reverse old) before (kept ++ reverse es') new
     gone_tied before tables new t w first root_line limit s =
         front_sound first root_line limit kept front u tables (subst (λ X. IsSound first root_line limit (kept ++ X) tables) newest (t first root_line limit s)) alone new w
 
@@ -287,7 +299,8 @@ none_lines : (e : StepId) (D : List Departure) → removed_places e (events_of D
 none_lines e [] z = refl
 none_lines e (d ∷ D) z = at (is_removed e (events_of D) d.event) z (none_lines e D)
   where
-    at : (b : Bool) → prepend_if b (length (events_of D)) (removed_places e (events_of D)) ≡ [] → (removed_places e (events_of D) ≡ [] → without_lines e D ≡ D) → prepend_if (not b) d (without_lines e D) ≡ d ∷ D
+    at : (b : Bool) → prepend_if b (length (events_of D)) (removed_places e (events_of D)) ≡ []
+        → (removed_places e (events_of D) ≡ [] → without_lines e D ≡ D) → prepend_if (not b) d (without_lines e D) ≡ d ∷ D
     at true z more = absurd (no_cons (length (events_of D)) (removed_places e (events_of D)) z)
     at false z more = ap (λ X. d ∷ X) (more z)
 
@@ -295,7 +308,8 @@ none_removed : (e : StepId) (H : History) → removed_places e H ≡ [] → remo
 none_removed e [] z = refl
 none_removed e (v ∷ H) z = at (is_removed e H v) z (none_removed e H)
   where
-    at : (b : Bool) → prepend_if b (length H) (removed_places e H) ≡ [] → (removed_places e H ≡ [] → removals e H ≡ []) → prepend_if b (record { id = step_of H v; action = v.action }) (removals e H) ≡ []
+    at : (b : Bool) → prepend_if b (length H) (removed_places e H) ≡ [] → (removed_places e H ≡ [] → removals e H ≡ [])
+        → prepend_if b (record { id = step_of H v; action = v.action }) (removals e H) ≡ []
     at true z more = absurd (no_cons (length H) (removed_places e H) z)
     at false z more = more z
 
@@ -313,7 +327,8 @@ module _ (e : StepId) (front : List Entry) (none : removed_places e (events fron
   all_gone [] = sym (none_removed e (events front) none)
   all_gone (w ∷ behind) = ap (prepend_if (is_removed e (events (behind ++ front)) w.event) (told (behind ++ front) w)) (all_gone behind)
 
-pub unwound : (e : StepId) (old es kept : List Entry) (ps : List ℕ) (steps : List StepId) (removed : List Removed) (before tables : Tables) → ps ≡ [] → Unwinds e old es kept ps steps removed → StayTied (reverse old) before (kept ++ reverse es) tables
+pub unwound : (e : StepId) (old es kept : List Entry) (ps : List ℕ) (steps : List StepId) (removed : List Removed) (before tables : Tables) → ps ≡ []
+    → Unwinds e old es kept ps steps removed → StayTied (reverse old) before (kept ++ reverse es) tables
     → Unwound e old before es kept tables removed
 unwound e old es kept ps steps removed before tables empty u t =
     let none : removed_places e (events (reverse es)) ≡ [] = sym (reverse-reverse _) ∙ ap reverse (sym u.places_left ∙ empty) in record {
@@ -324,7 +339,8 @@ unwound e old es kept ps steps removed before tables empty u t =
 
 -- ---- the stored steps are whole again
 
-module _ (first : Cells) (root_line limit : ℕ) (es rest es' kept : List Entry) (before tables : Tables) (e : StepId) (removed : List Removed) (all : Unwound e es before rest kept tables removed) (put : es' ≡ rest ++ reverse kept) where
+module _ (first : Cells) (root_line limit : ℕ) (es rest es' kept : List Entry) (before tables : Tables) (e : StepId) (removed : List Removed)
+    (all : Unwound e es before rest kept tables removed) (put : es' ≡ rest ++ reverse kept) where
   whole_again : reverse es' ≡ kept ++ reverse rest
   whole_again = ap reverse put ∙ reverse-append rest (reverse kept) ∙ ap (λ k. k ++ reverse rest) (reverse-reverse kept)
 
@@ -334,7 +350,8 @@ module _ (first : Cells) (root_line limit : ℕ) (es rest es' kept : List Entry)
   lines_are : map departure (reverse es') ≡ without_lines e (map departure (reverse es))
   lines_are = ap (map departure) whole_again ∙ all.rest
 
-  pub rolls_back : (s : Seen) → seen first root_line limit (reverse es) ≡ s → (answer : List Removed) → answer ≡ reverse removed → RollsBack s e (seen first root_line limit (reverse es')) answer
+  pub rolls_back : (s : Seen) → seen first root_line limit (reverse es) ≡ s → (answer : List Removed) → answer ≡ reverse removed
+      → RollsBack s e (seen first root_line limit (reverse es')) answer
   rolls_back s view answer told_so = subst (λ z. RollsBack z e (seen first root_line limit (reverse es')) answer) view (record {
     cells = refl;
     root_line = refl;

@@ -74,11 +74,13 @@ module _ (s : Seen) (t : Name) (o : Option Standing) (told : o ≡ option_map st
   none_told n = sym (ap (λ b. cond b (Some (config_of s t)) None) (not_there n))
 
 -- where the task is, as the call's answer says it
-pub some_stands : (s : Seen) (t : Name) (o : Option Standing) → o ≡ option_map standing_of (task_of s.root_line s.steps t) → IfSome o (λ k. (is_spawned (history s) t ≡ true) × (config_of s t ≡ config_with t k))
+pub some_stands : (s : Seen) (t : Name) (o : Option Standing) → o ≡ option_map standing_of (task_of s.root_line s.steps t)
+    → IfSome o (λ k. (is_spawned (history s) t ≡ true) × (config_of s t ≡ config_with t k))
 some_stands s t None told = tt
 some_stands s t (Some k) told = (is_there s t (Some k) told k refl, stands_as s t (Some k) told k refl)
 
-pub none_stands : (s : Seen) (t : Name) (o : Option Standing) → o ≡ option_map standing_of (task_of s.root_line s.steps t) → IfNone o (is_spawned (history s) t ≡ false)
+pub none_stands : (s : Seen) (t : Name) (o : Option Standing) → o ≡ option_map standing_of (task_of s.root_line s.steps t)
+    → IfNone o (is_spawned (history s) t ≡ false)
 none_stands s t None told = not_there s t None told refl
 none_stands s t (Some k) told = tt
 
@@ -109,7 +111,8 @@ running (Open ∷ acts) o n = refl
 running (Close ∷ acts) o n = refl
 running (Test b ∷ acts) o n = refl
 
-continues : (cells : Cells) (H : History) (t : Name) (a : Action) → names_allowed (length cells) a ≡ true → is_over (status_of (own t H)) ≡ false → (is_start a ≡ true) ↔ (own t H ≡ []) → (a ≡ Close → groups (own t H) ≢ [])
+continues : (cells : Cells) (H : History) (t : Name) (a : Action) → names_allowed (length cells) a ≡ true → is_over (status_of (own t H)) ≡ false
+    → (is_start a ≡ true) ↔ (own t H ≡ []) → (a ≡ Close → groups (own t H) ≢ [])
     → Continues cells t (own t H) (completed cells H t a)
 continues cells H t Start p o s g = s.0 refl
 continues cells H t (Let r x) p o s g = (running (own t H) o (λ e. false≢true (s.1 e)), grind (arith, nat_tests))
@@ -179,7 +182,8 @@ open_takes s p fits o =
     }
 
 -- where the plan's action is executed, its step is
-pub takes_steps : (s : Seen) (p : Plan) (to : ℕ) (new : Seen) (v : Event) (i : StepId) → IsCurrent s p → length s.steps < s.limit → Takes s p.config.task p.action to new v → line_behind p.instr p.config p.action ≡ to → i.task ≡ p.config.task → i.k ≡ p.config.steps + 1 → Steps s p new i
+pub takes_steps : (s : Seen) (p : Plan) (to : ℕ) (new : Seen) (v : Event) (i : StepId) → IsCurrent s p → length s.steps < s.limit
+    → Takes s p.config.task p.action to new v → line_behind p.instr p.config p.action ≡ to → i.task ≡ p.config.task → i.k ≡ p.config.steps + 1 → Steps s p new i
 takes_steps s p to new v i current room k line task number =
     let counted : p.config.steps + 1 ≡ suc (length (own p.config.task (history s))) = omega (arith, ap (λ c. c.steps) current.here) in
     let here : i ≡ step_of (history s) v =
@@ -203,10 +207,12 @@ takes_steps s p to new v i current room k line task number =
 
 -- ---- why a plan is refused
 
-pub current : (s : Seen) (p : Plan) → is_spawned (history s) p.config.task ≡ true → has_ended s p.config.task ≡ false → p.config ≡ config_of s p.config.task → IsCurrent s p
+pub current : (s : Seen) (p : Plan) → is_spawned (history s) p.config.task ≡ true → has_ended s p.config.task ≡ false → p.config ≡ config_of s p.config.task
+    → IsCurrent s p
 current s p there going here = record { spawned = there; going = going; here = here }
 
-pub stale_refuses : (s : Seen) (p : Plan) (now : Config) (r : StepRefusal) → is_spawned (history s) p.config.task ≡ true → has_ended s p.config.task ≡ false → config_of s p.config.task ≡ now → p.config ≢ now
+pub stale_refuses : (s : Seen) (p : Plan) (now : Config) (r : StepRefusal) → is_spawned (history s) p.config.task ≡ true → has_ended s p.config.task ≡ false
+    → config_of s p.config.task ≡ now → p.config ≢ now
     → IsStaleAnswer now r → IsKept s p r
 stale_refuses s p now (Stale c) there going e n h = record { spawned = there; going = going; now_is = h ∙ sym e; elsewhere = λ z. n (z ∙ h) }
 stale_refuses s p now Memory there going e n h = inl (now, record { spawned = there; going = going; now_is = sym e; elsewhere = n })

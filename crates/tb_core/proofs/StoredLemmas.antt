@@ -30,13 +30,15 @@ pub record IsAt (names : List Name) (es : List Entry) (at : ℕ) (s : Stored) : 
   pub here : entry ≡ get_or es at entry
   pub stored : IsStored names s entry
 
-pub stored_at : (names : List Name) (ss : List Stored) (es : List Entry) (at : ℕ) (s : Stored) → AllZip (IsStored names) ss es → at < length ss → s ≡ get_or ss at s → IsAt names es at s
+pub stored_at : (names : List Name) (ss : List Stored) (es : List Entry) (at : ℕ) (s : Stored) → AllZip (IsStored names) ss es → at < length ss
+    → s ≡ get_or ss at s → IsAt names es at s
 stored_at names ss es at s z within here =
     let inside : at < length es = omega (arith, within, AllZip-long (IsStored names) ss es z) in
     let w = some_entry es at inside in
     record { entry = w.0; within = inside; here = w.1; stored = zip_at (IsStored names) ss es at s w.0 z within here w.1 }
 
-pub entry_there : (names : List Name) (ss : List Stored) (es : List Entry) (at : ℕ) → AllZip (IsStored names) ss es → at < length ss → (e : Entry) × (at < length es) × (e ≡ get_or es at e)
+pub entry_there : (names : List Name) (ss : List Stored) (es : List Entry) (at : ℕ) → AllZip (IsStored names) ss es → at < length ss
+    → (e : Entry) × (at < length es) × (e ≡ get_or es at e)
 entry_there names ss es at z within =
     let inside : at < length es = omega (arith, within, AllZip-long (IsStored names) ss es z) in
     let w = some_entry es at inside in

@@ -57,7 +57,8 @@ kept_stored old new s e more grown is =
       number = is.number;
     }
 
-pub all_kept : (old new : Tables) (ss : List Stored) (es : List Entry) → KeepsNames old.waits.tasks new.waits.tasks → AllZip (IsStored (names_in old)) ss es → AllZip (IsStored (names_in new)) ss es
+pub all_kept : (old new : Tables) (ss : List Stored) (es : List Entry) → KeepsNames old.waits.tasks new.waits.tasks → AllZip (IsStored (names_in old)) ss es
+    → AllZip (IsStored (names_in new)) ss es
 all_kept old new [] [] keeps z = tt
 all_kept old new [] (e ∷ es) keeps z = absurd z
 all_kept old new (s ∷ ss) [] keeps z = absurd z
@@ -77,7 +78,8 @@ any_body t b c (d ∷ D) acted = by (any_body t b c D) (is_of t d.event) refl
         ∙ sym (ap (λ x. cond x d.to (line_of c t D)) h)
 
 -- the tables say the line of each task that has acted
-tables_tell : (first : Cells) (root_line : ℕ) (D : List Departure) (tables : Tables) → Legal first (events_of D) → IsState first root_line D tables → (t : Name) → own t (events_of D) ≢ []
+tables_tell : (first : Cells) (root_line : ℕ) (D : List Departure) (tables : Tables) → Legal first (events_of D) → IsState first root_line D tables
+    → (t : Name) → own t (events_of D) ≢ []
     → line_in tables t ≡ line_of (called_by root_line (spawn_of t (events_of D))).line t D
 tables_tell first root_line D tables legal state t acted =
     let there : is_spawned (events_of D) t ≡ true = acted_spawned first (events_of D) t legal acted in
@@ -89,7 +91,8 @@ AreLines lines body D = (t : Name) → own t (events_of D) ≢ [] → lines t �
 
 module _ (names : List Name) (first : Cells) (root_line : ℕ) (body : Name → ℕ) where
   -- one step back
-  lines_back : (lines : Name → ℕ) (s : Stored) (e : Entry) (es : List Entry) → IsStored names s e → replaced_in e ≡ replaced_for first root_line (map departure es) e.event
+  lines_back : (lines : Name → ℕ) (s : Stored) (e : Entry) (es : List Entry) → IsStored names s e
+      → replaced_in e ≡ replaced_for first root_line (map departure es) e.event
       → AreLines lines body (map departure (e ∷ es)) → AreLines (lines_before names lines s) body (map departure es)
   lines_back lines s e es is right told u acted = by (same_name u (name_of names s)) refl
     where
@@ -123,7 +126,8 @@ module _ (names : List Name) (first : Cells) (root_line : ℕ) (body : Name → 
   made t a to e = record { event = record { task = t; action = a }; to = to; at = e.at; number = e.number }
 
   -- what is stored says these stored steps
-  stored_say : (lines : Name → ℕ) (ss : List Stored) (es : List Entry) → AllZip (IsStored names) ss es → AreRecords first root_line es → AreLines lines body (map departure es) → entries_of names lines ss ≡ es
+  stored_say : (lines : Name → ℕ) (ss : List Stored) (es : List Entry) → AllZip (IsStored names) ss es → AreRecords first root_line es
+      → AreLines lines body (map departure es) → entries_of names lines ss ≡ es
   stored_say lines [] [] z r told = refl
   stored_say lines [] (e ∷ es) z r told = absurd z
   stored_say lines (s ∷ ss) [] z r told = absurd z
@@ -143,12 +147,14 @@ module _ (names : List Name) (first : Cells) (root_line : ℕ) (body : Name → 
       put : Name → Action → ℕ → ℕ → ℤ → Entry
       put t a to at n = record { event = record { task = t; action = a }; to = to; at = at; number = n }
 
-      whole : (t u : Name) (a b : Action) (l m : ℕ) (at bt : ℕ) (n k : ℤ) → t ≡ u → a ≡ b → l ≡ m → at ≡ bt → n ≡ k → (xs ys : List Entry) → xs ≡ ys → put t a l at n ∷ xs ≡ put u b m bt k ∷ ys
+      whole : (t u : Name) (a b : Action) (l m : ℕ) (at bt : ℕ) (n k : ℤ) → t ≡ u → a ≡ b → l ≡ m → at ≡ bt → n ≡ k → (xs ys : List Entry) → xs ≡ ys
+          → put t a l at n ∷ xs ≡ put u b m bt k ∷ ys
       whole t u a b l m at bt n k e f g h i xs ys r =
           ap (λ x. put x a l at n ∷ xs) e ∙ ap (λ x. put u x l at n ∷ xs) f ∙ ap (λ x. put u b x at n ∷ xs) g ∙ ap (λ x. put u b m x n ∷ xs) h ∙ ap (λ x. put u b m bt x ∷ xs) i ∙ ap (λ x. put u b m bt k ∷ x) r
 
 -- what a core stores says the stored steps that are sound with its tables
-pub entries_are : (first : Cells) (root_line limit : ℕ) (tables : Tables) (ss : List Stored) (es : List Entry) → AllZip (IsStored (names_in tables)) ss es → IsSound first root_line limit (reverse es) tables → entries_in tables ss ≡ es
+pub entries_are : (first : Cells) (root_line limit : ℕ) (tables : Tables) (ss : List Stored) (es : List Entry) → AllZip (IsStored (names_in tables)) ss es
+    → IsSound first root_line limit (reverse es) tables → entries_in tables ss ≡ es
 entries_are first root_line limit tables ss es z sound =
     let D : List Departure = map departure (reverse es) in
     ap reverse

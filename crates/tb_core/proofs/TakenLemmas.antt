@@ -38,7 +38,8 @@ use Rattle.tb_core.proofs.ShownLemmas.{may_take}
 
 -- ---- what is filled in is settled by the tables
 
-settled : (s : Tables) (t : Name) (a : Action) (f g : Cells) (m n : ℕ) (C D : List Departure) → names_allowed (length s.store.cells) a ≡ true → IsState f m C s → IsState g n D s → IsSpawned (events_of C) t → IsSpawned (events_of D) t
+settled : (s : Tables) (t : Name) (a : Action) (f g : Cells) (m n : ℕ) (C D : List Departure) → names_allowed (length s.store.cells) a ≡ true
+    → IsState f m C s → IsState g n D s → IsSpawned (events_of C) t → IsSpawned (events_of D) t
     → completed f (events_of C) t a ≡ completed g (events_of D) t a
 settled s t (Load r c x) f g m n C D h j k p q =
     let parts = and_parts (nat_lt r 16) (nat_lt c (length s.store.cells)) h in
@@ -129,7 +130,8 @@ module _ (first : Cells) (root_line limit : ℕ) (es : List Entry) (tables : Tab
           at false h = omega arith
 
 -- where a step fails, only capacity has changed
-pub sound_same : (first : Cells) (root_line limit : ℕ) (es : List Entry) (tables : Tables) → IsSound first root_line limit (reverse es) tables → (es' : List Entry) (tables' : Tables) → es' ≡ es → AreSame tables tables' → IsSound first root_line limit (reverse es') tables'
+pub sound_same : (first : Cells) (root_line limit : ℕ) (es : List Entry) (tables : Tables) → IsSound first root_line limit (reverse es) tables
+    → (es' : List Entry) (tables' : Tables) → es' ≡ es → AreSame tables tables' → IsSound first root_line limit (reverse es') tables'
 sound_same first root_line limit es tables sound es' tables' e same =
     subst (λ (x : List Entry). IsSound first root_line limit (reverse x) tables') (sym e)
     (record { legal = sound.legal; records = sound.records; state = state_same first root_line (map departure (reverse es)) tables tables' same sound.state; within = sound.within; bound = sound.bound })
@@ -150,7 +152,8 @@ packed_back first root_line D t (Test b) to = refl
 packed_back first root_line D t End to = refl
 packed_back first root_line D t Fault to = refl
 
-packed_right : (v : Event) (to : ℕ) (r : Replaced) (first : Cells) (root_line : ℕ) (D : List Departure) → r ≡ replaced_for first root_line D v → replaced_in (packed v to r) ≡ replaced_for first root_line D v
+packed_right : (v : Event) (to : ℕ) (r : Replaced) (first : Cells) (root_line : ℕ) (D : List Departure) → r ≡ replaced_for first root_line D v
+    → replaced_in (packed v to r) ≡ replaced_for first root_line D v
 packed_right v to r first root_line D is = ap (λ x. replaced_in (packed v to x)) is ∙ packed_back first root_line D v.task v.action to
 
 -- ---- an event that may follow the others
@@ -178,7 +181,8 @@ module _ (first : Cells) (root_line limit : ℕ) (es : List Entry) (tables : Tab
     pub sound' : IsSound first root_line limit (reverse es') new
     pub now : seen first root_line limit (reverse es') ≡ grown_by v to s
 
-  pub appended : (to : ℕ) (r : Replaced) (mid es' : List Entry) (new : Tables) → mid ≡ es → es' ≡ mid ++ packed v to r ∷ [] → IsBehind tables v to new → IsRecord tables v r → Appended to es' new
+  pub appended : (to : ℕ) (r : Replaced) (mid es' : List Entry) (new : Tables) → mid ≡ es → es' ≡ mid ++ packed v to r ∷ [] → IsBehind tables v to new
+      → IsRecord tables v r → Appended to es' new
   appended to r mid es' new kept more behind told =
       let entry : Entry = packed v to r in
       let all : reverse es' ≡ entry ∷ reverse es = ap reverse (more ∙ ap (λ xs. xs ++ entry ∷ []) kept) ∙ reverse-append es (entry ∷ []) in
@@ -195,7 +199,8 @@ module _ (first : Cells) (root_line limit : ℕ) (es : List Entry) (tables : Tab
       }
 
 -- the undo of a step that is executed would leave the others as they were
-pub takes_so : (s : Seen) (t : Name) (a : Action) (to : ℕ) (new : Seen) (v : Event) → v ≡ event_for s t a → MayFollow s.cells (history s) v → new ≡ grown_by v to s → Takes s t a to new v
+pub takes_so : (s : Seen) (t : Name) (a : Action) (to : ℕ) (new : Seen) (v : Event) → v ≡ event_for s t a → MayFollow s.cells (history s) v
+    → new ≡ grown_by v to s → Takes s t a to new v
 takes_so s t a to new v e may now = record {
   event = e;
   may = may;
@@ -205,7 +210,8 @@ takes_so s t a to new v e may now = record {
 }
 
 -- the capacity for a copy of the event is that for the event
-pub some_reserved : (copy v : Event) (room : ℕ) (s : Tables) (p : Places) → copy ≡ v → 0 < room → HasRoomFor s v → HasRoomForPlaces (names_in s) p v → HasReserved (Some copy) room s p
+pub some_reserved : (copy v : Event) (room : ℕ) (s : Tables) (p : Places) → copy ≡ v → 0 < room → HasRoomFor s v → HasRoomForPlaces (names_in s) p v
+    → HasReserved (Some copy) room s p
 some_reserved copy v room s p e some has place = record {
   entry = λ w h. some;
   tables = λ w h. subst (λ (x : Event). HasRoomFor s x) (sym e ∙ ap (λ o. unwrap_or o copy) h) has;
@@ -213,7 +219,8 @@ some_reserved copy v room s p e some has place = record {
 }
 
 -- what was reserved has its capacity yet
-pub reserved_kept : (o : Option Event) (room more : ℕ) (s now : Tables) (p new : Places) → room ≤ more → names_in now ≡ names_in s → ((v : Event) → HasRoomFor s v → HasRoomFor now v)
+pub reserved_kept : (o : Option Event) (room more : ℕ) (s now : Tables) (p new : Places) → room ≤ more → names_in now ≡ names_in s
+    → ((v : Event) → HasRoomFor s v → HasRoomFor now v)
     → ((n : Option ℕ) (a : Action) → HasRoomAs p n a → HasRoomAs new n a) → HasReserved o room s p → HasReserved o more now new
 reserved_kept o room more s now p new grows names tables places h = record {
   entry = λ v e. omega (arith, h.entry v e, grows);
@@ -224,13 +231,15 @@ reserved_kept o room more s now p new grows names tables places h = record {
 -- ---- the indexes
 
 -- the stored steps stay
-pub index_same : (es left : List Entry) (old new : Places) (was now : Tables) → left ≡ es → ((names : List Name) (events : List Event) → IsIndexOf names events old → IsIndexOf names events new)
+pub index_same : (es left : List Entry) (old new : Places) (was now : Tables) → left ≡ es
+    → ((names : List Name) (events : List Event) → IsIndexOf names events old → IsIndexOf names events new)
     → KeepsNames was.waits.tasks now.waits.tasks → IsIndexOf (names_in was) (events_in es) old → IsIndexOf (names_in now) (events_in left) new
 index_same es left old new was now same kept keeps index =
     subst (λ l. IsIndexOf (names_in now) (events_in l) new) (sym same) (index_kept was now (events_in es) new keeps (kept (names_in was) (events_in es) index))
 
 -- one is added
-pub index_added : (es more : List Entry) (e : Entry) (at : ℕ) (run : List Departure) (old new : Places) (was now : Tables) (number : Option ℕ) → run ≡ map departure (reverse es) → at ≡ length run → more ≡ es ++ e ∷ []
+pub index_added : (es more : List Entry) (e : Entry) (at : ℕ) (run : List Departure) (old new : Places) (was now : Tables) (number : Option ℕ)
+    → run ≡ map departure (reverse es) → at ≡ length run → more ≡ es ++ e ∷ []
     → ((names : List Name) (events : List Event) → number ≡ event_number names e.event → IsNamed names e.event → IsIndexOf names events old → at ≡ length events → IsIndexOf names (events ++ e.event ∷ []) new)
     → number ≡ event_number (names_in was) e.event → IsNamed (names_in was) e.event → KeepsNames was.waits.tasks now.waits.tasks → IsIndexOf (names_in was) (events_in es) old → IsIndexOf (names_in now) (events_in more) new
 index_added es more e at run old new was now number is count added pushed numbered named keeps index =

@@ -41,7 +41,8 @@ module _ (cells : Cells) (root_line limit : ℕ) where
   abbrev gone : StepId → Departure → Removed
   gone i d = record { id = i; action = d.event.action }
 
-  taken : (later front : List Departure) (d : Departure) → IsFree (run (later ++ d ∷ front)) (step_of (events_of front) d.event) → Legal cells (events_of (later ++ d ∷ front))
+  taken : (later front : List Departure) (d : Departure) → IsFree (run (later ++ d ∷ front)) (step_of (events_of front) d.event)
+      → Legal cells (events_of (later ++ d ∷ front))
       → TakesBack (run (later ++ d ∷ front)) (step_of (events_of front) d.event) (run (later ++ front)) (gone (step_of (events_of front) d.event) d)
   taken later front d free legal =
       let i : StepId = step_of (events_of front) d.event in
@@ -66,7 +67,8 @@ module _ (cells : Cells) (root_line limit : ℕ) where
         lines = λ body t. line_again body t later front d (subst (IsUnneeded i) whole u);
       }
 
-  pub taken_back : (D C later front : List Departure) (d : Departure) (i : StepId) (m : Removed) → D ≡ later ++ d ∷ front → C ≡ later ++ front → step_of (events_of front) d.event ≡ i → m ≡ gone i d
+  pub taken_back : (D C later front : List Departure) (d : Departure) (i : StepId) (m : Removed) → D ≡ later ++ d ∷ front → C ≡ later ++ front
+      → step_of (events_of front) d.event ≡ i → m ≡ gone i d
       → IsFree (run D) i → Legal cells (events_of D) → TakesBack (run D) i (run C) m
   taken_back D C later front d i m parts rest step is free legal =
       let X : List Departure = later ++ d ∷ front in
@@ -113,7 +115,8 @@ module _ (es : List Entry) (at : ℕ) (e : Entry) where
 -- ---- the index of a step
 
 module _ (first : Cells) (root_line limit : ℕ) (es : List Entry) (i : StepId) (at : ℕ) where
-  is_place : (e : Entry) → at < length es → e ≡ get_or es at e → step_of (events_of (map departure (front_of es at e))) e.event ≡ i → IsPlaceOfStep (seen first root_line limit (reverse es)) i at
+  is_place : (e : Entry) → at < length es → e ≡ get_or es at e → step_of (events_of (map departure (front_of es at e))) e.event ≡ i
+      → IsPlaceOfStep (seen first root_line limit (reverse es)) i at
   is_place e within here step = record {
     later = map departure (later_of es at e);
     step = departure e;
@@ -124,7 +127,8 @@ module _ (first : Cells) (root_line limit : ℕ) (es : List Entry) (i : StepId) 
   }
 
   -- a stored step there is the step
-  pub step_here : (e : Entry) → at < length es → e ≡ get_or es at e → IsPlaceOfStep (seen first root_line limit (reverse es)) i at → step_of (events_of (map departure (front_of es at e))) e.event ≡ i
+  pub step_here : (e : Entry) → at < length es → e ≡ get_or es at e → IsPlaceOfStep (seen first root_line limit (reverse es)) i at
+      → step_of (events_of (map departure (front_of es at e))) e.event ≡ i
   step_here e within here p =
       let c = cut_same p.later (map departure (later_of es at e)) p.front (map departure (front_of es at e)) p.step (departure e) (sym p.place ∙ sym (front_count es at e within)) (sym p.parts ∙ departures_cut es at e within here) in
       ap₂ (λ (f : List Departure) (d : Departure). step_of (events_of f) d.event) (sym c.2) (sym c.1) ∙ p.id
@@ -148,7 +152,8 @@ module _ (es : List Entry) (at : ℕ) (within : at < length es) where
   some_step = (step_of (history_of (take at es)) entry_at.event, step_there)
 
 -- the step that a scan finds has its index
-pub place_told : (first : Cells) (root_line limit : ℕ) (es xs : List Entry) (i : StepId) (at : ℕ) (s : Seen) → seen first root_line limit (reverse es) ≡ s → xs ≡ es → at < length xs → step_at xs at ≡ Some i → IsPlaceOfStep s i at
+pub place_told : (first : Cells) (root_line limit : ℕ) (es xs : List Entry) (i : StepId) (at : ℕ) (s : Seen) → seen first root_line limit (reverse es) ≡ s
+    → xs ≡ es → at < length xs → step_at xs at ≡ Some i → IsPlaceOfStep s i at
 place_told first root_line limit es xs i at s view ex inner told =
     let within : at < length es = omega (arith, inner, ap length ex) in
     let here = subst (λ l. step_at l at ≡ Some i) ex told in
@@ -159,7 +164,9 @@ place_told first root_line limit es xs i at s view ex inner told =
 
 -- ---- the step is taken out
 
-module _ (first : Cells) (root_line limit : ℕ) (es : List Entry) (tables : Tables) (i : StepId) (at : ℕ) (e : Entry) (s : Seen) (view : seen first root_line limit (reverse es) ≡ s) (within : at < length es) (here : e ≡ get_or es at e) (sound : IsSound first root_line limit (reverse es) tables) (free : IsFree s i) (place : IsPlaceOfStep s i at) where
+module _ (first : Cells) (root_line limit : ℕ) (es : List Entry) (tables : Tables) (i : StepId) (at : ℕ) (e : Entry) (s : Seen)
+    (view : seen first root_line limit (reverse es) ≡ s) (within : at < length es) (here : e ≡ get_or es at e)
+    (sound : IsSound first root_line limit (reverse es) tables) (free : IsFree s i) (place : IsPlaceOfStep s i at) where
   abbrev later : List Entry
   later = later_of es at e
 
@@ -211,7 +218,8 @@ module _ (first : Cells) (root_line limit : ℕ) (es : List Entry) (tables : Tab
     steps_left = ap (map departure) entries_left ∙ departures_append later front
 
     -- what the core answers
-    taken_out : (m : Removed) → m ≡ gone first root_line limit i (departure e) → TakesBack (seen first root_line limit (reverse es)) i (seen first root_line limit (reverse left)) m
+    taken_out : (m : Removed) → m ≡ gone first root_line limit i (departure e)
+        → TakesBack (seen first root_line limit (reverse es)) i (seen first root_line limit (reverse left)) m
     taken_out m is =
         taken_back first root_line limit (map departure (reverse es)) (map departure (reverse left)) (map departure later) (map departure front) (departure e) i m parts steps_left step is free_here sound.legal
 
@@ -234,13 +242,15 @@ module _ (first : Cells) (root_line limit : ℕ) (es : List Entry) (tables : Tab
     }
 
 -- the index is one of the stored steps
-pub place_within : (first : Cells) (root_line limit : ℕ) (es : List Entry) (i : StepId) (at : ℕ) (s : Seen) → seen first root_line limit (reverse es) ≡ s → IsPlaceOfStep s i at → at < length es
+pub place_within : (first : Cells) (root_line limit : ℕ) (es : List Entry) (i : StepId) (at : ℕ) (s : Seen) → seen first root_line limit (reverse es) ≡ s
+    → IsPlaceOfStep s i at → at < length es
 place_within first root_line limit es i at s view place =
     let p = subst (λ z. IsPlaceOfStep z i at) (sym view) place in
     omega (arith, p.place, ap length p.parts, length-append p.later (p.step ∷ p.front), length-map (reverse es) departure, length-reverse es)
 
 -- a step that is needed is there, and what needs it has a name
-pub needed : (first : Cells) (root_line limit : ℕ) (es xs ys : List Entry) (i : StepId) (at by : ℕ) (s : Seen) → seen first root_line limit (reverse es) ≡ s → Legal first (history_of es) → xs ≡ es → ys ≡ es
+pub needed : (first : Cells) (root_line limit : ℕ) (es xs ys : List Entry) (i : StepId) (at by : ℕ) (s : Seen) → seen first root_line limit (reverse es) ≡ s
+    → Legal first (history_of es) → xs ≡ es → ys ≡ es
     → IsTrue (stands i (history_of xs)) → step_at xs at ≡ Some i → ((j : StepId) → AreLegal ys → step_at ys at ≡ Some j → step_at ys by ≡ first_needer j (history_of ys)) → by < length ys → ((j : StepId) → step_at ys by ≡ Some j → IsLongName j.task)
     → IsTrue (stands i (history s)) × ((j : StepId) × (first_needer i (history s) ≡ Some j) × IsLongName j.task)
 needed first root_line limit es xs ys i at by s view legal ex ey there told needer within long =

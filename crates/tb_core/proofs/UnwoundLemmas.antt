@@ -27,7 +27,8 @@ use Rattle.tb_core.proofs.StoredLemmas.{same_record, same_event, made}
 use Rattle.tb_core.proofs.RolledLemmas.{places_below, stays, stays_tied, goes, goes_tied, gone_tied, some_step, its_name, unwound, first_unwinds, first_tied}
 
 -- at first
-pub unwinds_first : (old : List Entry) (before : Tables) (ss : List Stored) (r : Rollback) (n : ℕ) (steps : List StepId) (removed : List Removed) → AllZip (IsStored (names_in before)) ss old → IsOfHistory (events (reverse old)) r
+pub unwinds_first : (old : List Entry) (before : Tables) (ss : List Stored) (r : Rollback) (n : ℕ) (steps : List StepId) (removed : List Removed)
+    → AllZip (IsStored (names_in before)) ss old → IsOfHistory (events (reverse old)) r
     → removed ≡ [] → n ≡ length r.places.items → steps ≡ r.steps.items → UnwindsAt r.step old before ss ss before (take n r.places.items) (drop n r.places.items) steps removed (length ss)
 unwinds_first old before ss r n steps removed z ready none all names =
     let whole : take (length ss) old ≡ old = ap (λ m. take m old) (sym (AllZip-long (IsStored (names_in before)) ss old z)) ∙ take-length old in
@@ -44,7 +45,8 @@ unwinds_first old before ss r n steps removed z ready none all names =
       tied = subst (λ l. StayTied (reverse old) before ([] ++ reverse l) before) (sym whole) (first_tied old before);
     }
 
-module _ (e : StepId) (old : List Entry) (before : Tables) (ss now : List Stored) (tables : Tables) (ps : List ℕ) (at : ℕ) (done : List ℕ) (steps : List StepId) (removed : List Removed) (long : length old ≡ length ss) where
+module _ (e : StepId) (old : List Entry) (before : Tables) (ss now : List Stored) (tables : Tables) (ps : List ℕ) (at : ℕ) (done : List ℕ)
+    (steps : List StepId) (removed : List Removed) (long : length old ≡ length ss) where
   abbrev UnwindsTo : ℕ → Type 0
   UnwindsTo n = UnwindsAt e old before ss now tables (ps ++ at ∷ []) done steps removed n
 
@@ -130,7 +132,8 @@ module _ (e : StepId) (old : List Entry) (before : Tables) (ss now : List Stored
     pub some_name : (steps' : List StepId) (i : Option StepId) → steps ≡ steps' ++ option_to_list i → (0 < length steps → IsSome i) → IsSome i
     some_name steps' i out tells = some_step e old (front (at + 1)) (front at) (Some u) u off refl last.kept ps (Some at) at refl steps removed last.unwinds here steps' i out tells
 
-    module _ (x : Stored) (read : x ≡ get_or now at x) (steps' : List StepId) (i : Option StepId) (id : StepId) (out : steps ≡ steps' ++ option_to_list i) (name : i ≡ Some id) where
+    module _ (x : Stored) (read : x ≡ get_or now at x) (steps' : List StepId) (i : Option StepId) (id : StepId) (out : steps ≡ steps' ++ option_to_list i)
+        (name : i ≡ Some id) where
       is_stored : IsStored (names_in tables) x u
       is_stored =
           zip_at (IsStored (names_in tables)) ss old at x u zipped inside
@@ -150,7 +153,8 @@ module _ (e : StepId) (old : List Entry) (before : Tables) (ss now : List Stored
           subst (λ v. Stands tables v (replaced_stored x)) (sym its_event)
           (subst (Stands tables u.event) (sym its_record) (goes_tied e old (front (at + 1)) (front at) (Some u) u off refl last.kept ps (Some at) at refl steps removed last.unwinds here before tables tied last.tied))
 
-      pub goes_stored : (new : Tables) → IsWithout tables (made id.task x.action) (replaced_stored x) new → (removed' : List Removed) → removed' ≡ removed ++ (record { id = id; action = x.action }) ∷ []
+      pub goes_stored : (new : Tables) → IsWithout tables (made id.task x.action) (replaced_stored x) new → (removed' : List Removed)
+          → removed' ≡ removed ++ (record { id = id; action = x.action }) ∷ []
           → (hollow : Stored) (now' : List Stored) → now' ≡ set now at hollow → (ps' done' : List ℕ) → ps' ≡ ps → done' ≡ at ∷ done → UnwindsAt e old before ss now' new ps' done' steps' removed' at
       goes_stored new without removed' told_more hollow now' put ps' done' fewer grown =
           subst (λ d. UnwindsAt e old before ss now' new ps' d steps' removed' at) (sym grown) (record {
@@ -184,9 +188,11 @@ module _ (e : StepId) (old : List Entry) (before : Tables) (ss now : List Stored
 
 -- ---- the loop over the indexes
 
-module _ (e : StepId) (old : List Entry) (before : Tables) (ss now : List Stored) (tables : Tables) (places : List ℕ) (next : ℕ) (steps : List StepId) (removed : List Removed) (count : ℕ) (u : UnwindsAt e old before ss now tables (take next places) (drop next places) steps removed count) where
+module _ (e : StepId) (old : List Entry) (before : Tables) (ss now : List Stored) (tables : Tables) (places : List ℕ) (next : ℕ) (steps : List StepId)
+    (removed : List Removed) (count : ℕ) (u : UnwindsAt e old before ss now tables (take next places) (drop next places) steps removed count) where
   -- the next index to go
-  pub next_state : (at : ℕ) → 0 < next → next ≤ length places → at ≡ get_or places (next - 1) at → UnwindsAt e old before ss now tables (take (next - 1) places ++ at ∷ []) (drop next places) steps removed count
+  pub next_state : (at : ℕ) → 0 < next → next ≤ length places → at ≡ get_or places (next - 1) at
+      → UnwindsAt e old before ss now tables (take (next - 1) places ++ at ∷ []) (drop next places) steps removed count
   next_state at some within here =
       let same : next ≡ next - 1 + 1 = omega (arith, some) in
       let last : take next places ≡ take (next - 1) places ++ at ∷ [] =
@@ -210,7 +216,8 @@ module _ (e : StepId) (old : List Entry) (before : Tables) (ss now : List Stored
         unwound = unwound e old (take count old) u.kept (take next places) steps removed before tables (ap (λ n. take n places) none) u.unwinds u.tied;
       }
 
-pub next_done : (places : List ℕ) (next at : ℕ) → 0 < next → next ≤ length places → at ≡ get_or places (next - 1) at → drop (next - 1) places ≡ at ∷ drop next places
+pub next_done : (places : List ℕ) (next at : ℕ) → 0 < next → next ≤ length places → at ≡ get_or places (next - 1) at
+    → drop (next - 1) places ≡ at ∷ drop next places
 next_done places next at some within here =
     let same : next - 1 + 1 ≡ next = omega (arith, some) in
     drop_more places (next - 1) at (omega (arith, some, within)) ∙ ap₂ (λ p n. p ∷ drop n places) (sym here) same

@@ -78,11 +78,13 @@ grows_less true false m n f l = absurd (false≢true (f refl))
 grows_less false true m n f l = omega (arith, l)
 grows_less false false m n f l = l
 
-fewer_among : (after : Option Name) (t : Name) (us : List Name) → IsBehind after t → list_any (same_name t) us ≡ true → count_behind (Some t) us < count_behind after us
+fewer_among : (after : Option Name) (t : Name) (us : List Name) → IsBehind after t → list_any (same_name t) us ≡ true
+    → count_behind (Some t) us < count_behind after us
 fewer_among after t [] b i = absurd (false≢true i)
 fewer_among after t (u ∷ us) b i = at (same_name t u) refl (fewer_among after t us b)
   where
-    at : (s : Bool) → same_name t u ≡ s → (list_any (same_name t) us ≡ true → count_behind (Some t) us < count_behind after us) → count_behind (Some t) (u ∷ us) < count_behind after (u ∷ us)
+    at : (s : Bool) → same_name t u ≡ s → (list_any (same_name t) us ≡ true → count_behind (Some t) us < count_behind after us)
+        → count_behind (Some t) (u ∷ us) < count_behind after (u ∷ us)
     at true e rest =
         let same : t ≡ u = same_true t u e in
         one_fewer (is_less (name_cmp t u)) (is_behind after u) (count_behind (Some t) us) (count_behind after us)
@@ -153,7 +155,8 @@ later_still : (after : Option Name) (t u : Name) → IsBehind after t → name_c
 later_still None t u b h = tt
 later_still (Some a) t u b h = name_cmp_total.trans a t u b h
 
-module _ (H : History) (P : Name → Type 0) (unended : (u : Name) → P u → is_unended H u ≡ true) (after : Option Name) (ts : List Name) (g : Gathered P after ts) where
+module _ (H : History) (P : Name → Type 0) (unended : (u : Name) → P u → is_unended H u ≡ true) (after : Option Name) (ts : List Name)
+    (g : Gathered P after ts) where
   -- where a task with the property is there that isn't found yet
   from_next : (t u : Name) → IsLeastName (IsUnendedBehind H after) (Some t) → P u → IsBehind after u → (u ≡ t) ⊎ (name_cmp t u ≡ Less)
   from_next t u l p b =
@@ -175,7 +178,8 @@ module _ (H : History) (P : Name → Type 0) (unended : (u : Name) → P u → i
         whole = λ u q. ⊎_elim (λ i. inl (any_push u t ts i)) (λ b. ⊎_elim (λ s. inl (subst (λ w. list_any (same_name u) (ts ++ w ∷ []) ≡ true) s (any_last u ts))) (λ h. inr h) (from_next t u l q b)) (g.whole u q);
       })
     where
-      further : (u : Name) → IsBehind (Some t) u → (ws : List Name) → AllByRecursion (λ w. IsBehind (Some w) t) ws → AllByRecursion (λ w. IsBehind (Some w) u) ws
+      further : (u : Name) → IsBehind (Some t) u → (ws : List Name) → AllByRecursion (λ w. IsBehind (Some w) t) ws
+          → AllByRecursion (λ w. IsBehind (Some w) u) ws
       further u b [] h = tt
       further u b (w ∷ ws) h = (name_cmp_total.trans w t u h.0 b, further u b ws h.1)
 

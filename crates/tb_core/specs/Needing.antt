@@ -1,11 +1,11 @@
 -- Where a step may be needed directly. No public clause cites this module.
-use Rattle.std.specs.Prelude.{◌≡◌, ◌≤◌, ◌<◌, ℕ, List, Bool, true, false, ◌||◌, IsFalse, IsTrue, Option, Some, None, get_or, take}
+use Rattle.std.specs.Prelude.{◌≡◌, ◌≤◌, ◌<◌, ℕ, List, Bool, true, false, ◌||◌, IsFalse, IsTrue, Option, Some, None, get_or, length, take}
 use Rattle.tb_model.specs.declared.action.Action.{Action}
 use Rattle.tb_model.specs.declared.action.Action.TheVariants.{Start, Load, Store, Print, Spawn, Wait, Close}
 use Rattle.tb_model.specs.declared.event.Event.{Event}
 use Rattle.tb_model.specs.Names.{Name, same_name, is_child, is_within}
 use Rattle.tb_model.specs.Facts.{is_of, is_print, touches}
-use Rattle.tb_model.specs.Needs.{needs}
+use Rattle.tb_model.specs.Needs.{needs, waits_for}
 use Rattle.tb_steps.specs.Entries.{Entry}
 use Rattle.tb_steps.specs.Scans.{history_of}
 
@@ -17,16 +17,21 @@ meets (Print x) v = is_print v.action
 meets (Spawn s) v = is_of s.child v
 meets _ v = false
 
--- the action can wait for a task other than its own, which has depend items or none
+-- the action can wait for a task other than its own, for which a start may wait or none does
 abbrev pub may_wait : Bool → Action → Bool
-may_wait has_items Start = has_items
-may_wait has_items (Wait items) = true
-may_wait has_items Close = true
-may_wait has_items _ = false
+may_wait is_met Start = is_met
+may_wait is_met (Wait items) = true
+may_wait is_met Close = true
+may_wait is_met _ = false
 
--- the action of t may need the end of u, by what is read off the action and the names, and by whether u has depend items
+-- the action of t may need the end of u, by what is read off the action and the names, and by whether a start may
 abbrev pub may_wait_for : Bool → Action → Name → Name → Bool
-may_wait_for has_items a t u = may_wait has_items a || (is_child t u || same_name t u)
+may_wait_for is_met a t u = may_wait is_met a || (is_child t u || same_name t u)
+
+-- no task of an entry behind the place `at` would wait, if it started there, for the end of the task of the one at that place
+abbrev pub NoStartWaits : List Entry → ℕ → Type 0
+NoStartWaits entries at =
+    (k : ℕ) (v u : Entry) → at < k → k < length entries → v ≡ get_or entries k v → u ≡ get_or entries at u → IsFalse (waits_for (history_of (take k entries)) v.event.task Start u.event.task)
 
 -- no stored step from the one index on, in front of the other, directly needs the one at the index
 -- `at`

@@ -1,7 +1,10 @@
 //! A history that is lent: its steps by their indexes.
 
-ghost use Rattle.std.specs.Prelude.{◌≡◌, ◌<◌, ◌≤◌, [], ◌∷◌, suc, IfSome, IfNone, IsTrue, length, take, get_or};
-ghost use Rattle.tb_model.specs.Facts.{is_of, is_print, is_spawned, items_of, own, touches};
+ghost use Rattle.std.specs.Prelude.{◌≡◌, ◌<◌, ◌≤◌, [], ◌∷◌, suc, IfSome, IfNone, IsFalse, IsTrue, length, take, get_or};
+ghost use Rattle.tb_model.specs.declared.action.Action.TheVariants.{Start};
+ghost use Rattle.tb_model.specs.Names.{Name};
+ghost use Rattle.tb_model.specs.Facts.{IsSpawned, is_of, is_print, is_spawned, items_of, own, touches};
+ghost use Rattle.tb_model.specs.Needs.{waits_for};
 ghost use Rattle.tb_steps.specs.Entries.{Entry as AnEntry};
 ghost use Rattle.tb_core.specs.Lending.{AreLeft, IsLast, IsNoneBetween};
 ghost use Rattle.tb_steps.specs.Scans.{AreLegal, history_of};
@@ -128,6 +131,15 @@ impl<'a> History<'a> {
             result.now ≡ items_of task.now (history_of self.now) }
     {
         self.tables.items(task)
+    }
+
+    /// Whether a start may wait for the end of the task, as far as the items of siblings say.
+    pub fn is_met(&self, task: &TaskName) -> bool
+        ensures { IsFalse result → (t : Name) →
+            IsSpawned (history_of self.now) task.now → IsSpawned (history_of self.now) t →
+            IsFalse (waits_for (history_of self.now) t Start task.now) }
+    {
+        self.tables.is_met(task)
     }
 
     /// The first index from this one on at which the task stepped, else how many steps there are.

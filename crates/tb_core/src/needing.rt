@@ -2,14 +2,14 @@
 //! tables, and where a step may be needed mostly to the indexes; all else is found by scans. Memory
 //! is taken for names alone, and where it is refused there is a scan too.
 
-ghost use Rattle.std.specs.Prelude.{◌≡◌, ◌<◌, ◌≤◌, [], IfOk, IfSome, IsFalse, IsTrue, Some, length, take, get_or};
+ghost use Rattle.std.specs.Prelude.{◌≡◌, ◌<◌, ◌≤◌, IfOk, IfSome, IsFalse, IsTrue, Some, length, take, get_or};
 ghost use Rattle.tb_model.specs.declared.step_id.StepId.{StepId};
-ghost use Rattle.tb_model.specs.Facts.{apart, before, covers, is_end, is_spawned, items_of};
+ghost use Rattle.tb_model.specs.Facts.{apart, before, covers, is_end, is_spawned};
 ghost use Rattle.tb_model.specs.Needs;
 ghost use Rattle.tb_model.specs.Needers;
 ghost use Rattle.tb_steps.specs.Entries.{Entry as AnEntry};
 ghost use Rattle.tb_core.specs.Lending.{IsNoneBetween};
-ghost use Rattle.tb_core.specs.Needing.{NoneNeeds, NoneOf, may_wait_for, meets};
+ghost use Rattle.tb_core.specs.Needing.{NoStartWaits, NoneNeeds, NoneOf, may_wait_for, meets};
 ghost use Rattle.tb_steps.specs.Scans.{AreLegal, history_of, step_at, found_step};
 
 use crate::history::History;
@@ -52,19 +52,19 @@ fn next_chance(entries: &History<'_>, at: usize, from: usize) -> usize
     own.min(next_met(entries, action, from))
 }
 
-/// Whether the task of the step at this index was generated with depend items.
-fn has_items(entries: &History<'_>, at: usize) -> bool
+/// Whether a start may wait for the end of the task of the step at this index: some sibling may
+/// depend on it or exclude it.
+fn is_met(entries: &History<'_>, at: usize) -> bool
     requires { at < length entries.now }
-    ensures { IsFalse result → (e : AnEntry) → e ≡ get_or entries.now at e →
-        items_of e.event.task (history_of entries.now) ≡ [] }
+    ensures { IsFalse result → NoStartWaits entries.now at }
 {
     entries.is_legal();
-    !entries.items(entries.task(at)).is_empty()
+    entries.is_met(entries.task(at))
 }
 
-/// An index from this one on, in front of which no stored step needs the end at `at`. Where its task
-/// has no depend items, only the steps of tasks above it are looked at. Those of a task far from the
-/// root are not: each is found by a walk down to it.
+/// An index from this one on, in front of which no stored step needs the end at `at`. Where no start
+/// may wait for it, only the steps of tasks above it are looked at. Those of a task far from the root
+/// are not: each is found by a walk down to it.
 fn next_wait(entries: &History<'_>, at: usize, from: usize) -> usize
     requires at { at < from }
     requires from { from ≤ length entries.now }
@@ -73,24 +73,23 @@ fn next_wait(entries: &History<'_>, at: usize, from: usize) -> usize
     ensures within { result ≤ length entries.now }
     ensures none { NoneNeeds entries.now at from result }
 {
-    let has_items = has_items(entries, at);
-    if has_items || entries.task(at).is_deep() {
-        return scanned_wait(entries, at, from, has_items);
+    let is_met = is_met(entries, at);
+    if is_met || entries.task(at).is_deep() {
+        return scanned_wait(entries, at, from, is_met);
     }
     match next_above(entries, at, from) {
         Ok(next) => next,
-        Err(_) => scanned_wait(entries, at, from, has_items),
+        Err(_) => scanned_wait(entries, at, from, is_met),
     }
 }
 
-/// The first index from this one on at which the end at `at` is needed, whose task has no depend
-/// items, else how many there are: what needs it is a step of its task or of one above.
+/// The first index from this one on at which the end at `at` is needed, for which no start waits, else
+/// how many there are: what needs it is a step of its task or of one above.
 fn next_above(entries: &History<'_>, at: usize, from: usize) -> Result<usize, AllocError>
     requires at { at < from }
     requires from { from ≤ length entries.now }
     requires end { (e : AnEntry) → e ≡ get_or entries.now at e → IsTrue (is_end e.event.action) }
-    requires items { (e : AnEntry) → e ≡ get_or entries.now at e →
-        items_of e.event.task (history_of entries.now) ≡ [] }
+    requires starts { NoStartWaits entries.now at }
     ensures from { IfOk result (λ next. from ≤ next) }
     ensures within { IfOk result (λ next. next ≤ length entries.now) }
     ensures none { IfOk result (λ next. NoneNeeds entries.now at from next) }
@@ -133,12 +132,11 @@ fn next_needer_of(
 
 /// The first index from this one on at which the end at `at` may be waited for, else how many there
 /// are.
-fn scanned_wait(entries: &History<'_>, at: usize, from: usize, has_items: bool) -> usize
+fn scanned_wait(entries: &History<'_>, at: usize, from: usize, is_met: bool) -> usize
     requires at { at < from }
     requires from { from ≤ length entries.now }
     requires end { (e : AnEntry) → e ≡ get_or entries.now at e → IsTrue (is_end e.event.action) }
-    requires items { IsFalse has_items → (e : AnEntry) → e ≡ get_or entries.now at e →
-        items_of e.event.task (history_of entries.now) ≡ [] }
+    requires starts { IsFalse is_met → NoStartWaits entries.now at }
     ensures from { from ≤ result }
     ensures within { result ≤ length entries.now }
     ensures none { NoneNeeds entries.now at from result }
@@ -148,7 +146,7 @@ fn scanned_wait(entries: &History<'_>, at: usize, from: usize, has_items: bool) 
     let end = entries.len();
     let mut next = from;
     'past: while next < end {
-        if may_wait_for(entries.action(next), entries.task(next), ended, has_items) {
+        if may_wait_for(entries.action(next), entries.task(next), ended, is_met) {
             return next;
         }
         next += 1;
@@ -157,13 +155,13 @@ fn scanned_wait(entries: &History<'_>, at: usize, from: usize, has_items: bool) 
 }
 
 /// Whether the action of `t` may need the end of `u`, by what is read off the action and the names,
-/// and by whether `u` has depend items.
+/// and by whether a start may.
 #[inline(always)]
-fn may_wait_for(action: &Action, t: &TaskName, u: &TaskName, has_items: bool) -> bool
-    ensures { result ≡ may_wait_for has_items action.now t.now u.now }
+fn may_wait_for(action: &Action, t: &TaskName, u: &TaskName, is_met: bool) -> bool
+    ensures { result ≡ may_wait_for is_met action.now t.now u.now }
 {
     let waits = match action {
-        Action::Start => has_items,
+        Action::Start => is_met,
         Action::Wait { .. } | Action::Close => true,
         _ => false,
     };

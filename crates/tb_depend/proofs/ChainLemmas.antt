@@ -135,8 +135,8 @@ before_met new items n meeting r m b = record {
 -- ---- a step towards the front
 
 -- none after this index comes before the new one
-abbrev pub AreNoneBehind : (Item → Bool) → List Item → ℕ → ℕ → Type 0
-AreNoneBehind test items from at = (k : ℕ) (i : Item) → k < from → slice_get items k ≡ Some i → IsTrue (test i) → k < at
+abbrev pub AreNoneLater : (Item → Bool) → List Item → ℕ → ℕ → Type 0
+AreNoneLater test items from at = (k : ℕ) (i : Item) → k < from → slice_get items k ≡ Some i → IsTrue (test i) → k < at
 
 pub same_item : (items : List Item) (k : ℕ) (i j : Item) → slice_get items k ≡ Some i → slice_get items k ≡ Some j → j ≡ i
 same_item items k i j e f = some_same (sym f ∙ e)
@@ -146,7 +146,7 @@ same_item items k i j e f = some_same (sym f ∙ e)
 
 module _ (test : Item → Bool) (items : List Item) (from at : ℕ) (i : Item) where
   -- over one that fails
-  pub over_one : AreNoneBehind test items from at → slice_get items (at - 1) ≡ Some i → test i ≡ false → AreNoneBehind test items from (at - 1)
+  pub over_one : AreNoneLater test items from at → slice_get items (at - 1) ≡ Some i → test i ≡ false → AreNoneLater test items from (at - 1)
   over_one none e fails k j h f t = elim (cases_lt k (at - 1)) [
     | inl q ↦ q
     | inr q ↦
@@ -157,11 +157,11 @@ module _ (test : Item → Bool) (items : List Item) (from at : ℕ) (i : Item) w
   ]
 
   -- and over those in front of it, to the last that passes
-  pub over_more : (next : ℕ) → AreNoneBehind test items from at → slice_get items (at - 1) ≡ Some i → test i ≡ false → IsLast test items (at - 1) next → AreNoneBehind test items from next
+  pub over_more : (next : ℕ) → AreNoneLater test items from at → slice_get items (at - 1) ≡ Some i → test i ≡ false → IsLast test items (at - 1) next → AreNoneLater test items from next
   over_more next none e fails l k j h f t = l.last k j (over_one none e fails k j h f t) f t
 
   -- to one that passes
-  pub stops_at : at ≤ from → AreNoneBehind test items from at → slice_get items (at - 1) ≡ Some i → IsTrue (test i) → IsLast test items from at
+  pub stops_at : at ≤ from → AreNoneLater test items from at → slice_get items (at - 1) ≡ Some i → IsTrue (test i) → IsLast test items from at
   stops_at w none e t = record {
     within = w;
     last = none;

@@ -7,3 +7,4 @@ pub mod ChainLemmas
 pub mod PlacesLemmas
 pub mod NearLemmas
 mod NearestLemmas
+pub mod MetLemmas

@@ -37,7 +37,7 @@ items_last siblings items =
     let e : length siblings + 1 ≡ suc (length siblings) = omega arith in
     ap (items_at (siblings ++ items ∷ [])) e ∙ items_behind siblings items
 
-items_past : (siblings : List (List Item)) (n : ℕ) → length siblings < n → items_at siblings n ≡ []
+pub items_past : (siblings : List (List Item)) (n : ℕ) → length siblings < n → items_at siblings n ≡ []
 items_past siblings zero h = absurd (omega arith)
 items_past [] (suc k) h = refl
 items_past (s ∷ siblings) (suc zero) h = absurd (omega arith)

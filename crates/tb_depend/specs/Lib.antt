@@ -4,3 +4,4 @@ pub mod Table
 pub mod Layout
 pub mod Chains
 pub mod Nearness
+pub mod Met

@@ -1,8 +1,9 @@
 //! The children of one task.
 
-ghost use Rattle.std.specs.Prelude.{◌≡◌, ◌<◌, ◌≤◌, ◌+◌, ◌-◌, [], ◌∷◌, ◌++◌, IsOk, OnOk, OnErr, IfOk, IsTrue, ◌↔◌, length, take, min, vec_capacity};
+ghost use Rattle.std.specs.Prelude.{◌≡◌, ◌<◌, ◌≤◌, ◌+◌, ◌-◌, ℕ, [], ◌∷◌, ◌++◌, IsOk, OnOk, OnErr, IfOk, IsFalse, IsTrue, ◌↔◌, length, take, min, vec_capacity};
 ghost use Rattle.tb_depend.specs.Numbers.{numbers_where};
 ghost use Rattle.tb_depend.specs.Relations.{items_at, depends, excludes, is_covered, preds_of, apart_of, covered_by};
+ghost use Rattle.tb_depend.specs.Met.{NoneLater, NoneEarlier};
 ghost use Rattle.tb_depend.specs.Table.{HasRoomFor, KeepsRoom, FreesRoom};
 ghost use Rattle.tb_depend.specs.Nearness.{IsClosed, AreOver, AreOverFor, AreNear};
 
@@ -86,6 +87,52 @@ impl Siblings {
     {
         (m < n && some_apart(self.items(n), self.items(m)))
             || (n < m && some_apart(self.items(m), self.items(n)))
+    }
+
+    /// Whether some child may depend on the nth or exclude it. Those after it are asked first, since
+    /// mostly one of them does where any does. Takes no memory.
+    pub fn is_met(&self, n: usize) -> bool
+        ensures { IsFalse result → (m : ℕ) →
+            IsFalse (depends self.now.siblings m n) × IsFalse (excludes self.now.siblings m n) }
+    {
+        if self.items(n).is_empty() {
+            return false;
+        }
+        if self.is_met_later(n) {
+            return true;
+        }
+        self.is_met_earlier(n)
+    }
+
+    /// Whether some child after the nth depends on it or excludes it.
+    fn is_met_later(&self, n: usize) -> bool
+        ensures { IsFalse result → NoneLater self.now.siblings n }
+    {
+        let own = self.items(n);
+        let mut k = n;
+        'later: while k < self.len() {
+            let items = self.items(k + 1);
+            if some_before(items, own) || some_apart(items, own) {
+                return true;
+            }
+            k += 1;
+        }
+        false
+    }
+
+    /// Whether some child in front of the nth excludes it.
+    fn is_met_earlier(&self, n: usize) -> bool
+        ensures { IsFalse result → NoneEarlier self.now.siblings n }
+    {
+        let own = self.items(n);
+        let mut k = 1;
+        'front: while k < n {
+            if some_apart(own, self.items(k)) {
+                return true;
+            }
+            k += 1;
+        }
+        false
     }
 
     /// Whether a `taskwait` with these items waits for the nth child. Without items it waits for

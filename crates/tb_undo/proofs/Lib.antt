@@ -21,3 +21,4 @@ pub mod AskingLemmas
 pub mod StartLemmas
 pub mod ReadingLemmas
 pub mod MiddleLemmas
+pub mod MetLemmas

@@ -1,13 +1,15 @@
 //! What the tables say of a task, of the cells and of the output.
 
-ghost use Rattle.std.specs.Prelude.{◌≡◌, ◌<◌, ◌≤◌, [], ℕ, List, Some, None, IfSome, length, option_map, reverse, slice_get, if◌then◌else◌};
+ghost use Rattle.std.specs.Prelude.{◌≡◌, ◌<◌, ◌≤◌, [], ℕ, List, Some, None, IfSome, IsFalse, length, option_map, reverse, slice_get, if◌then◌else◌};
 ghost use Rattle.std.specs.List.{IsDistinct, list_any};
 ghost use Rattle.std.specs.Map.{keys_of};
 ghost use Rattle.std.specs.Option.{option_copied};
-ghost use Rattle.tb_model.specs.Names.{same_name};
+ghost use Rattle.tb_model.specs.declared.action.Action.TheVariants.{Start};
+ghost use Rattle.tb_model.specs.Names.{Name, same_name};
 ghost use Rattle.tb_model.specs.LeastNames.{IsLeastName};
 ghost use Rattle.tb_model.specs.Facts.{own, ends, last, before, apart, is_spawned, items_of};
 ghost use Rattle.tb_model.specs.State.{called_by, open_groups, printed, spawn_of};
+ghost use Rattle.tb_model.specs.Needs.{waits_for};
 ghost use Rattle.tb_model.specs.Legal.{first_number, spawn_count};
 ghost use Rattle.tb_model.specs.Lines.{events_of};
 ghost use Rattle.tb_wait.specs.Kin.{place};
@@ -174,6 +176,17 @@ impl Tables {
     {
         match self.family(name) {
             Some((n, parent)) => parent.children.is_apart(number as usize, n as usize),
+            None => false,
+        }
+    }
+
+    /// Whether a start may wait for the end of the task: some sibling may depend on it or exclude it.
+    pub fn is_met(&self, name: &TaskName) -> bool
+        ensures { ForHistory self.now (λ H. IsFalse result → (t : Name)
+            → IsFalse (waits_for H t Start name.now)) }
+    {
+        match self.family(name) {
+            Some((n, parent)) => parent.children.is_met(n as usize),
             None => false,
         }
     }

@@ -63,8 +63,8 @@ impl Core {
         self.free_place(id).err()
     }
 
-    /// Takes a step back that nothing needs, wherever it is. It takes no memory where that is done.
-    /// Its index is known. The name that is handed in is returned in the answer.
+    /// Takes a step back that nothing needs, wherever it is. Where memory is refused that is done too,
+    /// maybe more slowly. Its index is known. The name that is handed in is returned in the answer.
     pub fn undo(&mut self, id: StepId) -> Result<Removed, UndoRefusal>
         ensures undone { Undone self.old.run id self.new.run result }
         ensures err { OnErr result (self.new ≡ self.old) }

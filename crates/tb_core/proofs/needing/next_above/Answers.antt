@@ -23,7 +23,7 @@ up-init c =
       within = c.next_of-next.ensures.within;
       only = subst (λ (o : Option Name). OnlyAbove o es at from next) (sym c.in_ok-above.ensures.parent)
           (subst (λ (t : Name). OnlyAbove (parent t) es at from next) (sym task)
-          (from_parent es at from next u.0 c.is_legal.ensures within c.next_of-next.ensures.within u.1 (c.requires.end u.0 u.1) (c.requires.items u.0 u.1) none));
+          (from_parent es at from next u.0 c.is_legal.ensures within c.requires.at c.next_of-next.ensures.within u.1 (c.requires.end u.0 u.1) c.requires.starts none));
     }
 
 -- one task further up

@@ -16,7 +16,7 @@ past-preserved c =
     let within : at < length es = omega (arith, c.requires.at, c.requires.from) in
     let u = there es at within in
     let w = there es next inside in
-    let some = c.args.has_items in
+    let some = c.args.is_met in
     let apart : may_wait_for some w.0.event.action w.0.event.task u.0.event.task ≡ false =
     subst (λ a. may_wait_for some a w.0.event.task u.0.event.task ≡ false) (c.action.ensures w.0 w.1)
     (subst (λ t. may_wait_for some c.action.result.now t u.0.event.task ≡ false) (c.task.ensures w.0 w.1)
@@ -24,5 +24,5 @@ past-preserved c =
     record {
       from = omega (arith, c.past.invariant.from);
       within = omega (arith, inside);
-      none = none_waits some es at c.args.from next u.0 w.0 c.is_legal.ensures within inside u.1 w.1 (c.requires.end u.0 u.1) (λ h. c.requires.items h u.0 u.1) apart c.past.invariant.none;
+      none = none_waits some es at c.args.from next u.0 w.0 c.is_legal.ensures c.requires.at c.past.invariant.from inside u.1 w.1 (c.requires.end u.0 u.1) c.requires.starts apart c.past.invariant.none;
     }
