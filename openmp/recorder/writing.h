@@ -30,6 +30,10 @@ typedef uint64_t __attribute__((may_alias)) half;
 _Static_assert(offsetof(struct event, place) == 24 && offsetof(struct event, kind) == 30 && sizeof(struct event) == 32,
                "the last eight bytes are one store");
 
+static inline half last_half(int32_t place, uint16_t size, enum kind kind, int mark) {
+    return (uint32_t)place | (uint64_t)size << 32 | (uint64_t)kind << 48 | (uint64_t)(uint8_t)mark << 56;
+}
+
 /* Behind what is written down last stands an event without a kind, at which the piece ends. */
 __attribute__((always_inline)) static inline struct event *write_down(struct own *own, enum kind kind, uint32_t stamp, uint32_t task,
                                                                       uint64_t address, uint64_t value, int32_t place, uint16_t size, int mark) {
@@ -42,8 +46,7 @@ __attribute__((always_inline)) static inline struct event *write_down(struct own
     event->value = value;
     event->stamp = stamp;
     event->task = task;
-    __atomic_store_n((half *)&event->place, (uint32_t)place | (uint64_t)size << 32 | (uint64_t)kind << 48 | (uint64_t)(uint8_t)mark << 56,
-                     __ATOMIC_RELEASE);
+    __atomic_store_n((half *)&event->place, last_half(place, size, kind, mark), __ATOMIC_RELEASE);
     return event;
 }
 
