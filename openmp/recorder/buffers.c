@@ -22,7 +22,7 @@ int taskback_is_recording;
 static struct own *all_threads;
 struct counter taskback_counter;
 uint64_t taskback_base;
-static uint32_t thread_count;
+uint32_t taskback_thread_count;
 static uint64_t file_end = HEADER;
 static uint64_t thread_local_size;
 static int file = -1;
@@ -167,7 +167,7 @@ struct own *taskback_adopt(void) {
     struct own *own = fresh_memory(sizeof *own);
     taskback_own = own;
     own->part_key = PART;
-    own->index = __atomic_fetch_add(&thread_count, 1, __ATOMIC_RELAXED);
+    own->index = __atomic_fetch_add(&taskback_thread_count, 1, __ATOMIC_RELAXED);
     find_strangers(own);
     own->tls_size = thread_local_size;
     own->tls_low = (uint64_t)__builtin_thread_pointer() - thread_local_size;

@@ -86,8 +86,8 @@ enum mark { ATOMIC = 1, FREED = 2, LIBRARY = 4, FRAME = 8, OUTERMOST = 16 };
 /* Above these marks stands, of several elements, 1 and the power of two that is the size of each. */
 enum { ROW_SHIFT = 5 };
 
-/* Marks of a loop, of an iteration, of a release, of a lock that several may hold, of a task's own part of a stack, and of
-   the start of a task that has items, which are written down behind its making. */
+/* Marks of a loop, of an iteration, of a release, of a lock that several may hold, of a task's own part of a stack, and of a
+   start that has raised the counter, since there are several threads. */
 enum { LOOP_STATIC = 1, LOOP_ORDERED = 2, HANDED_OUT = 1, KEEPS = 1, GUARD = 2, NOTHING = 4, DOWN = 8, UP = 8, SHARED = 1,
        REDUCES = 2, STACK = 1, TEAMS = 1, COUNTED = 2 };
 
@@ -105,7 +105,7 @@ struct event {
 
 /* Whether the event raises the one counter. The others, on which no order between threads hangs, have the number that it
    had: what is given back comes in front of who takes it next, and all else between two threads is ordered by numbers. A
-   start or a wait is behind what has to come first, which has taken a number; but for items, which take none. */
+   wait is behind ends, which have taken one; so is a start, but there may be items in front of it that another thread wrote. */
 static inline int takes_number(uint8_t kind, uint8_t mark) {
     switch (kind) {
     case WRITE: return (mark & FREED) && !(mark & FRAME);

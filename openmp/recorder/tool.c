@@ -4,7 +4,7 @@
 #include "writing.h"
 
 /* A task's data is its number with these below, and above it the size of its record. */
-enum { STARTED = 1, UNTIED = 2, HAS_ITEMS = 4, NUMBER_SHIFT = 3, SIZE_SHIFT = 35, SIZE_MOST = SET };
+enum { STARTED = 1, UNTIED = 2, NUMBER_SHIFT = 2, SIZE_SHIFT = 34, SIZE_MOST = SET };
 /* How many numbers of tasks a thread takes at once. */
 enum { NUMBERS = 64 };
 
@@ -115,7 +115,7 @@ static void on_create(ompt_data_t *creator, const ompt_frame_t *frame, ompt_data
     if (flags & (ompt_task_initial | ompt_task_taskwait))
         return;
     begin_loud_part(own);
-    name_task(own, child, (flags & ompt_task_untied ? UNTIED : 0) | (own->item_count + own->more_count ? HAS_ITEMS : 0));
+    name_task(own, child, flags & ompt_task_untied ? UNTIED : 0);
     child->value |= record_size(own, number_of(creator)) << SIZE_SHIFT;
     uint64_t kept = (uint32_t)flags & ~(uint32_t)ompt_task_undeferred;
     uint64_t where = (uint64_t)place;
@@ -179,7 +179,7 @@ static void go_on(struct own *own, ompt_data_t *next, uint32_t before) {
         return;
     }
     next->value |= STARTED;
-    int mark = next->value & HAS_ITEMS ? COUNTED : 0;
+    int mark = __atomic_load_n(&taskback_thread_count, __ATOMIC_RELAXED) > 1 ? COUNTED : 0;
     own->started = write_down(own, START, number_of_event(START, mark), own->task, 0, 0, 0, 0, mark);
     push_task(own, own->task, before, is_untied, next);
 }

@@ -8,6 +8,9 @@
 struct counter { uint32_t last; char rest[124]; } __attribute__((aligned(128)));
 extern struct counter taskback_counter;
 
+/* How many threads write events down. */
+extern uint32_t taskback_thread_count;
+
 /* From where the program is loaded. */
 extern uint64_t taskback_base;
 

@@ -140,11 +140,15 @@ class Folded(support.Recorded):
 
     def test_starts_behind_items(self):
         """Items come behind the making of their task, and in front of its start, whoever starts it."""
-        events, _ = self.traced(TASKS, 8)
-        items = {event.task for event in events if event.kind == t.ITEM}
-        starts = [event for event in events if event.kind == t.START]
-        self.assertEqual({event.task for event in starts if event.mark & t.COUNTED}, items)
-        self.assertEqual(len(items), 3)
+        for threads in support.THREADS:
+            events, _ = self.traced(TASKS, threads)
+            kinds = [(event.task, event.kind) for event in events if event.kind in (t.ITEM, t.START)]
+            with_items = [task for task, kind in kinds if kind == t.ITEM]
+            self.assertEqual(len(with_items), 3)
+            for task in with_items:
+                self.assertLess(kinds.index((task, t.ITEM)), kinds.index((task, t.START)))
+            counted = {bool(event.mark & t.COUNTED) for event in events if event.kind == t.START}
+            self.assertEqual(counted, {threads > 1})
 
 
 if __name__ == "__main__":
