@@ -309,8 +309,7 @@ void taskback_access(enum kind kind, uint64_t address, uint64_t size, uint64_t p
 
 /* What a function has on the stack ends with it; of one that is called again in this part it is told once. A task's outermost
    function ends once. */
-__attribute__((always_inline)) static inline void end_frame(struct own *own, uint64_t low, uint64_t size, uint64_t place, int is_outermost) {
-    struct frame *user = outer_of(own, ((struct frame *)__builtin_frame_address(0)));
+static void end_frame(struct own *own, uint64_t low, uint64_t size, uint64_t place, int is_outermost, struct frame *user) {
     if ((own->record_size | own->muted | own->sorted.size) && is_apart(own, low))
         return;
     if (own->lanes.follows)
@@ -328,10 +327,6 @@ __attribute__((always_inline)) static inline void end_frame(struct own *own, uin
     *touched = (struct touched){key_of(own, place), alone(WRITE, low), size, event, 0, 0, 0, 0};
 }
 
-void __tsan_init(void) {}
-void __tsan_ignore_thread_begin(void) {}
-void __tsan_ignore_thread_end(void) {}
-
 /* The first function that a task enters shows where its part of the stack begins; all below is new to it. What a
    function has on the stack no other task knows of until the function meets the runtime. */
 void __tsan_func_entry(void *caller) {
@@ -340,10 +335,8 @@ void __tsan_func_entry(void *caller) {
     uint64_t top = (uint64_t)__builtin_frame_address(1) + 16;
     if (top - own->stack_low > own->quiet_span)
         own->quiet_span = own->stack_low ? top - own->stack_low : 0;
-    if (own->depth == 0 || own->depth > RUNNING_MOST)
-        return;
-    struct running *running = &own->running[own->depth - 1];
-    if (running->base)
+    struct running *running = top_task(own);
+    if (!running || running->base)
         return;
     running->base = top;
     struct event *start = own->next - 1;
@@ -358,20 +351,28 @@ void __tsan_func_entry(void *caller) {
 
 /* What a function has on the stack ends with it, as a block that is given back. A task's first function is that task's to
    its end: of an untied task the runtime says at the latest call in it, or not at all, that it leaves the thread. */
-void __tsan_func_exit(void) {
-    struct own *own = own_state();
-    uint64_t top = (uint64_t)__builtin_frame_address(1) + 16, low = (uint64_t)__builtin_frame_address(0) + 16;
-    int is_followed = own->depth > 0 && own->depth <= RUNNING_MOST;
-    struct running *running = &own->running[is_followed ? own->depth - 1 : 0];
-    int is_outermost = is_followed && running->base == top;
-    if (is_outermost)
-        own->task = running->task;
+__attribute__((noinline)) static void leave_function(struct own *own, uint64_t place, struct frame *frame) {
+    struct running *running = top_task(own);
+    uint64_t low = (uint64_t)frame + 16, top = (uint64_t)frame->outer + 16;
+    int is_outermost = running && running->base == top;
     if (top - own->stack_low > own->quiet_span && top > low)
-        end_frame(own, low, top - low, PLACE, is_outermost);
+        end_frame(own, low, top - low, place, is_outermost, outer_of(own, frame));
     if (!is_outermost || !running->is_untied)
         return;
     own->task = running->prior;
     taskback_pop_task(own, running->task);
+}
+
+/* Nobody else knows of most functions' variables. */
+void __tsan_func_exit(void) {
+    struct own *own = own_state();
+    uint64_t top = (uint64_t)__builtin_frame_address(1) + 16;
+    struct running *running = top_task(own);
+    int is_outermost = running && running->base == top;
+    if (is_outermost)
+        own->task = running->task;
+    if (top - own->stack_low > own->quiet_span || (is_outermost && running->is_untied))
+        leave_function(own, PLACE, __builtin_frame_address(0));
 }
 
 /* By the pass: what stands below on the stack ends there, as arrays whose length the program computes do with their block. */
@@ -387,21 +388,26 @@ static inline int is_quiet(const struct own *own, const void *address) {
     return (uint64_t)address - own->stack_low < own->quiet_span || (uint64_t)address - own->quiet_record < own->quiet_size;
 }
 
-/* Most calls end here. */
-__attribute__((always_inline)) static inline void touch(struct own *own, enum kind kind, uint64_t address, uint32_t shift, uint64_t place, struct frame *frame) {
-    uint64_t block = address >> (shift + 6), bit = 1ull << (address >> shift & 63);
-    struct touched *touched = touched_at(own, block, place);
-    int is_aligned = (address & ((1u << shift) - 1)) == 0;
-    if (touched->key != key_of(own, place) || touched->block != block) {
-        if (!is_aligned)
-            touch_more(own, kind, address, shift, place, frame);
-        else if (kind == READ)
-            load_first(own, address, shift, touched, place, frame);
-        else
-            store_first(own, address, shift, touched, place, frame);
-    } else if (!is_aligned || !(told_of(touched, shift) & bit ? is_known(own, touched, kind, address) : joins(own, touched, address, shift, bit, frame))) {
+/* An element of a block that the place has touched. */
+__attribute__((noinline)) static void touch_known(struct own *own, enum kind kind, uint64_t address, uint32_t shift, uint64_t place, struct frame *frame) {
+    uint64_t bit = 1ull << (address >> shift & 63);
+    struct touched *touched = touched_at(own, address >> (shift + 6), place);
+    if (!(told_of(touched, shift) & bit ? is_known(own, touched, kind, address) : joins(own, touched, address, shift, bit, frame)))
         touch_more(own, kind, address, shift, place, frame);
-    }
+}
+
+/* Each way ends with a call, so that none has registers to keep. */
+__attribute__((always_inline)) static inline void touch(struct own *own, enum kind kind, uint64_t address, uint32_t shift, uint64_t place, struct frame *frame) {
+    uint64_t block = address >> (shift + 6);
+    struct touched *touched = touched_at(own, block, place);
+    if (address & ((1u << shift) - 1))
+        touch_more(own, kind, address, shift, place, frame);
+    else if (touched->key == key_of(own, place) && touched->block == block)
+        touch_known(own, kind, address, shift, place, frame);
+    else if (kind == READ)
+        load_first(own, address, shift, touched, place, frame);
+    else
+        store_first(own, address, shift, touched, place, frame);
 }
 
 /* Whether a lane's access is the next one of those that it follows, and so isn't written down. */
@@ -417,59 +423,62 @@ static inline int follows(struct lanes *lanes, uint64_t address, uint64_t place,
 }
 
 /* In a `simd` loop. */
-__attribute__((noinline)) static void touch_in_lane(struct own *own, struct lane_step *step, struct frame *frame) {
-    if (is_quiet(own, (const void *)step->address) || (own->is_alone && step->kind == READ))
+__attribute__((noinline)) static void touch_in_lane(struct own *own, enum kind kind, uint64_t address, uint32_t shift, uint64_t place,
+                                                    struct frame *frame) {
+    if (follows(&own->lanes, address, place, frame->outer) || is_quiet(own, (const void *)address) || (own->is_alone && kind == READ))
         return;
     if (own->lanes.follows)
         taskback_part_lane(own);
-    touch(own, step->kind, step->address, step->shift, step->place, frame);
+    touch(own, kind, address, shift, place, frame);
     struct frame *user = outer_of(own, frame);
-    step->frame = (uint64_t)user;
-    step->caller = user ? user->back : 0;
-    taskback_lane_steps(own, step);
+    taskback_lane_steps(own, &(struct lane_step){address, 0, (uint64_t)user, user ? user->back : 0, place, shift, kind, 0});
 }
 
-/* What isn't the next element of a row. The calls below end with a call of these, so that those that go on have no registers
-   to keep; `frame` is then that of the call still. */
-__attribute__((noinline)) static void load(uint64_t address, uint32_t shift, uint64_t place, struct frame *frame) {
-    struct own *own = own_state();
-    if (follows(&own->lanes, address, place, frame->outer))
-        return;
+/* What isn't the next element of a row. The calls below end with a call of these, as these do, so that those that go on have
+   no registers to keep; `frame` is then that of the call still. */
+__attribute__((noinline)) static void load(struct own *own, uint64_t address, uint32_t shift, uint64_t place, struct frame *frame) {
     if (own->lanes.depth)
-        touch_in_lane(own, &(struct lane_step){.address = address, .place = place, .shift = shift, .kind = READ}, frame);
+        touch_in_lane(own, READ, address, shift, place, frame);
     else if (!is_quiet(own, (const void *)address) && !own->is_alone)
         touch(own, READ, address, shift, place, frame);
 }
 
-__attribute__((noinline)) static void store(uint64_t address, uint32_t shift, uint64_t place, struct frame *frame) {
-    struct own *own = own_state();
-    if (__builtin_expect(own->loop.is_on, 0)) {
-        taskback_stored_in_loop(own, address, 1u << shift);
-        if (goes_on(own, address, shift, place, frame))
-            return;
-    }
-    if (follows(&own->lanes, address, place, frame->outer))
-        return;
+__attribute__((noinline)) static void store(struct own *own, uint64_t address, uint32_t shift, uint64_t place, struct frame *frame) {
     if (own->lanes.depth)
-        touch_in_lane(own, &(struct lane_step){.address = address, .place = place, .shift = shift, .kind = WRITE}, frame);
+        touch_in_lane(own, WRITE, address, shift, place, frame);
     else if (!is_quiet(own, (const void *)address))
         touch(own, WRITE, address, shift, place, frame);
 }
 
+/* By a thread that is new, or in a worksharing loop, of which it may be the number that is stored. */
+__attribute__((noinline)) static void load_apart(uint64_t address, uint32_t shift, uint64_t place, struct frame *frame) {
+    load(own_state(), address, shift, place, frame);
+}
+
+__attribute__((noinline)) static void store_apart(uint64_t address, uint32_t shift, uint64_t place, struct frame *frame) {
+    struct own *own = own_state();
+    if (own->loop.is_on)
+        taskback_stored_in_loop(own, address, 1u << shift);
+    if (!goes_on(own, address, shift, place, frame))
+        store(own, address, shift, place, frame);
+}
+
 #define FRAME_HERE ((struct frame *)__builtin_frame_address(0))
-#define LOAD(bytes)                                                                                        \
-    void __sanitizer_cov_load##bytes(void *address) {                                                      \
-        struct own *own = taskback_own;                                                                    \
-        if (own && goes_on(own, (uint64_t)address, __builtin_ctz(bytes), PLACE, FRAME_HERE))               \
-            return;                                                                                        \
-        load((uint64_t)address, __builtin_ctz(bytes), PLACE, FRAME_HERE);                                  \
+#define LOAD(bytes)                                                                         \
+    void __sanitizer_cov_load##bytes(void *address) {                                       \
+        struct own *own = taskback_own;                                                     \
+        if (__builtin_expect(!own, 0))                                                      \
+            load_apart((uint64_t)address, __builtin_ctz(bytes), PLACE, FRAME_HERE);         \
+        else if (!goes_on(own, (uint64_t)address, __builtin_ctz(bytes), PLACE, FRAME_HERE)) \
+            load(own, (uint64_t)address, __builtin_ctz(bytes), PLACE, FRAME_HERE);          \
     }
-#define STORE(bytes)                                                                                       \
-    void __sanitizer_cov_store##bytes(void *address) {                                                     \
-        struct own *own = taskback_own;                                                                    \
-        if (own && !own->loop.is_on && goes_on(own, (uint64_t)address, __builtin_ctz(bytes), PLACE, FRAME_HERE)) \
-            return;                                                                                        \
-        store((uint64_t)address, __builtin_ctz(bytes), PLACE, FRAME_HERE);                                 \
+#define STORE(bytes)                                                                        \
+    void __sanitizer_cov_store##bytes(void *address) {                                      \
+        struct own *own = taskback_own;                                                     \
+        if (__builtin_expect(!own || own->loop.is_on, 0))                                   \
+            store_apart((uint64_t)address, __builtin_ctz(bytes), PLACE, FRAME_HERE);        \
+        else if (!goes_on(own, (uint64_t)address, __builtin_ctz(bytes), PLACE, FRAME_HERE)) \
+            store(own, (uint64_t)address, __builtin_ctz(bytes), PLACE, FRAME_HERE);         \
     }
 #define BOTH(bytes) LOAD(bytes) STORE(bytes)
 BOTH(1)
@@ -488,7 +497,3 @@ void taskback_store(void *address, uint64_t size) {
     if (!is_quiet(own_state(), address))
         taskback_access(WRITE, (uint64_t)address, size, PLACE, 0);
 }
-
-/* The thread instrumentation tells virtual tables' pointers apart; coverage has their loads and stores already. */
-void __tsan_vptr_update(void **address, void *value) { (void)address, (void)value; }
-void __tsan_vptr_read(void **address) { (void)address; }

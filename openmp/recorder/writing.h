@@ -19,6 +19,8 @@ void taskback_turn_page(struct own *own);
 
 /* A place, counted from where the program is loaded; 0: it isn't in it. */
 static inline int32_t offset_of(uint64_t place) {
+    if (__builtin_constant_p(place) && place == 0)
+        return 0;
     int64_t offset = (int64_t)(place - taskback_base);
     return offset > 0 && offset <= INT32_MAX ? (int32_t)offset : 0;
 }

@@ -169,7 +169,7 @@ def unfolded(events: list[Event]) -> Iterator[Event]:
         event = events[at]
         size, before = event.size, event.stamp - 1
         if event.kind == LANE and size:
-            yield from lanes(event, events[at + 1:at + 2 + LANE_STEPS])
+            yield from lanes(event, events[at + 1:at + 1 + LANE_STEPS + LANE_STEPS // 4])
             while events[at + 1].kind in (READ, WRITE):
                 at = next(left)
         elif event.kind == CREATE and size:
