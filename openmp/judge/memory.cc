@@ -20,7 +20,7 @@ void Memory::take(std::size_t at) {
     const event &e = run_.trace[at];
     if (e.kind == BARRIER_END || e.kind == REGION_END)
         copied_at_.clear();
-    if (e.kind == MEMORY || (e.kind == LANE && e.value != 0) || ((e.kind == START || e.kind == END) && e.mark == STACK))
+    if (e.kind == MEMORY || (e.kind == LANE && e.value != 0) || ((e.kind == START || e.kind == END) && (e.mark & STACK)))
         return is_new(at, e);
     if (e.kind == LOCK && e.mark == REDUCES)
         return reduce(at);
@@ -270,7 +270,7 @@ void Memory::is_new(std::size_t at, const event &e) {
     freed_.erase(freed_.lower_bound(e.address), freed_.lower_bound(e.address + e.value));
     auto last = blocks.lower_bound(e.address + e.value);
     auto first = blocks.lower_bound(e.address);
-    if (e.kind != END && e.mark == STACK && run_.segment_of[at] != NONE)
+    if (e.kind != END && (e.mark & STACK) && run_.segment_of[at] != NONE)
         stacks_.emplace(run_.segments[run_.segment_of[at]].actor, std::make_pair(e.address, e.value));
     blocks.erase(first, last);
     handover_.forget(e.address, e.value);

@@ -132,7 +132,7 @@ bool Part::is_left(const event &e, std::size_t at, const std::unordered_set<u64>
     bool is_gone = e.task < is_out_.size() && is_out_[e.task];
     if ((e.kind == CREATE || e.kind == FULFIL) && e.address < is_out_.size() && is_out_[e.address])
         return false;
-    if (is_gone && (e.kind == MEMORY || ((e.kind == START || e.kind == END) && e.mark == STACK))) {
+    if (is_gone && (e.kind == MEMORY || ((e.kind == START || e.kind == END) && (e.mark & STACK)))) {
         changed.kind = MEMORY;
         changed.mark = 0;
         changed.task = 0;
@@ -151,7 +151,7 @@ bool Part::is_left(const event &e, std::size_t at, const std::unordered_set<u64>
 
 void Part::write(const char *path) const {
     std::ofstream out(path, std::ios::binary);
-    std::string page = "taskback trace 3 " + run_.trace.program();
+    std::string page = "taskback trace 4 " + run_.trace.program();
     page.resize(4096, '\n');
     out.write(page.data(), static_cast<std::streamsize>(page.size()));
     const auto places = touched();

@@ -87,7 +87,7 @@ void Run::access(std::size_t at, const event &e) {
     s.seen = at;
     segment_of[at] = s.segment;
     locks_of[at] = locks_with(s, e);
-    chain_of[at] = s.callers;
+    chain_of[at] = e.mark & OUTERMOST ? NONE : s.callers;
     if (s.reduction != NONE && e.kind == WRITE && !(e.mark & FREED)) {
         reductions[s.reduction].actor = s.actor;
         reductions[s.reduction].writes.push_back(at);
@@ -161,14 +161,14 @@ void Run::take_sync(std::size_t at, const event &e) {
     case START:
         start(e, trace.thread(at));
         segment_of[at] = state_of(e).segment;
-        if (e.mark == STACK) {
+        if (e.mark & STACK) {
             forget_released(e);
             take_stack(state_of(e), at, e);
         }
         return;
     case END:
         segment_of[at] = state_of(e).segment;
-        if (e.mark == STACK)
+        if (e.mark & STACK)
             give_back_stack(at, e.address + e.value);
         return end(e);
     case RESUME: actors[state_of(e).actor].thread = trace.thread(at); return;
@@ -194,7 +194,7 @@ void Run::take_sync(std::size_t at, const event &e) {
     case MEMORY:
         segment_of[at] = state_of(e).segment;
         forget_released(e);
-        if (e.mark == STACK)
+        if (e.mark & STACK)
             take_stack(state_of(e), at, e);
         else if (lives_.is_stack(trace.thread(at), e.address))
             give_back_stack(at, e.address + e.value);

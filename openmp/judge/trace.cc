@@ -19,7 +19,7 @@ Trace::Trace(const char *path) {
     length_ = static_cast<std::size_t>(about.st_size);
     void *mapped = length_ ? mmap(nullptr, length_, PROT_READ, MAP_PRIVATE, file, 0) : MAP_FAILED;
     close(file);
-    constexpr char WORDS[] = "taskback trace 3 ";
+    constexpr char WORDS[] = "taskback trace 4 ";
     bool is_whole = mapped != MAP_FAILED && length_ >= HEADER && std::memcmp(mapped, WORDS, sizeof WORDS - 1) == 0;
     if (mapped != MAP_FAILED)
         bytes_ = static_cast<const char *>(mapped);
@@ -36,7 +36,7 @@ Trace::~Trace() {
 
 void Trace::read_header() {
     std::string page(bytes_, HEADER);
-    std::size_t begin = std::strlen("taskback trace 3 "), end = page.find('\n');
+    std::size_t begin = std::strlen("taskback trace 4 "), end = page.find('\n');
     program_ = page.substr(begin, end - begin);
     is_cut_ = page.compare(HEADER - (sizeof NO_ROOM - 1), sizeof NO_ROOM - 1, NO_ROOM) == 0;
     std::size_t second = page.find('\n', end + 1);
@@ -101,31 +101,50 @@ u32 Trace::unpack(std::size_t at, event *to) const {
     return count;
 }
 
+// All events, and which of them each piece has.
+std::vector<Trace::Piece> Trace::read_events(const std::vector<std::size_t> &begins) {
+    const auto one = std::make_unique<event[]>(PIECE);
+    std::vector<Piece> pieces;
+    std::size_t size = 0;
+    for (std::size_t at : begins) {
+        const auto begin = static_cast<u32>(size);
+        const u32 count = unpack(at, one.get());
+        size += unfolded_size(one.get(), count);
+        if (size >= NONE)
+            throw BadTrace("the trace has too many events");
+        pieces.push_back(Piece{begin, static_cast<u32>(size), count == PIECE});
+    }
+    events_.reset(new event[size]);
+    for (std::size_t number = 0; number < begins.size(); number++)
+        unfold(one.get(), unpack(begins[number], one.get()), &events_[pieces[number].begin]);
+    return pieces;
+}
+
+// Whether the one is the other once more, behind its first event.
+bool Trace::is_twice(const Piece &one, const Piece &other) const {
+    const std::size_t count = one.end - one.begin;
+    return one.is_full && other.is_full && count == other.end - other.begin
+           && std::memcmp(&events_[one.begin + 1], &events_[other.begin + 1], (count - 1) * sizeof(event)) == 0;
+}
+
 // The pieces of each thread in its order: its first one, which it fills again and again, has its newest events.
 std::vector<std::vector<Trace::Piece>> Trace::read_pieces() {
-    const auto begins = find_begins();
-    events_.reset(new event[begins.size() * PIECE]);
     std::vector<std::vector<Piece>> pieces(1);
-    for (std::size_t number = 0; number < begins.size(); number++) {
-        const auto begin = static_cast<u32>(number * PIECE);
-        const event &head = events_[begin];
-        const u32 end = begin + unpack(begins[number], &events_[begin]);
+    for (const Piece &piece : read_events(find_begins())) {
+        const event &head = events_[piece.begin];
         const u32 thread = head.kind == CHUNK ? static_cast<u32>(head.address) : 0;
         if (thread >= length_ / sizeof(event))
             throw BadTrace("the trace's threads are wrong");
-        threads_.push_back(thread);
         if (thread >= pieces.size())
             pieces.resize(thread + 1);
-        pieces[thread].push_back(Piece{begin, end});
+        pieces[thread].push_back(piece);
     }
     for (auto &own : pieces) {
         if (own.empty() || events_[own[0].begin].kind != CHUNK)
             continue;
         std::rotate(own.begin(), own.begin() + 1, own.end());
         // A run that ended between the copy of a full piece and what comes next has it twice.
-        const Piece &last = own.back(), &newest = own[own.size() > 1 ? own.size() - 2 : 0];
-        if (own.size() > 1 && last.end - last.begin == PIECE && newest.end - newest.begin == PIECE
-            && std::memcmp(&events_[last.begin + 1], &events_[newest.begin + 1], (PIECE - 1) * sizeof(event)) == 0)
+        if (own.size() > 1 && is_twice(own.back(), own[own.size() - 2]))
             own.pop_back();
     }
     return pieces;
@@ -134,7 +153,11 @@ std::vector<std::vector<Trace::Piece>> Trace::read_pieces() {
 // The last number in front of one that is missing: where there was no room for all, or a thread was in the middle of
 // writing at the end, what comes behind makes no sense without it.
 u32 Trace::find_whole(const std::vector<std::vector<Piece>> &pieces) {
-    std::vector<bool> is_there(threads_.size() * PIECE + 2, false);
+    u32 count = 0;
+    for (const auto &own : pieces)
+        for (const Piece &piece : own)
+            count = std::max(count, piece.end);
+    std::vector<bool> is_there(std::size_t{count} + 2, false);
     u32 last = 0;
     for (const auto &own : pieces)
         for (const Piece &piece : own)
@@ -177,6 +200,10 @@ void Trace::put_in_order() {
             if (takes_number(e.kind, e.mark) == has_number)
                 order_[at[e.stamp]++] = i;
         });
+    for (std::size_t thread = 0; thread < pieces.size(); thread++)
+        for (const Piece &piece : pieces[thread])
+            for (u32 i = piece.begin; i < piece.end; i++)
+                events_[i].stamp = static_cast<u32>(thread);
 }
 
 }  // namespace judge

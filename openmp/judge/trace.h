@@ -13,6 +13,7 @@
 namespace judge {
 
 using u8 = std::uint8_t;
+using u16 = std::uint16_t;
 using u32 = std::uint32_t;
 using u64 = std::uint64_t;
 
@@ -22,7 +23,11 @@ struct BadTrace : std::runtime_error {
     using std::runtime_error::runtime_error;
 };
 
-// The events of a trace in the order of their stamps.
+// How many events those of a piece stand for, and these.
+std::size_t unfolded_size(const event *events, std::size_t count);
+void unfold(const event *events, std::size_t count, event *to);
+
+// The events of a trace in the order of their stamps, in whose place stand their threads then.
 class Trace {
 public:
     explicit Trace(const char *path);
@@ -33,7 +38,7 @@ public:
     std::size_t size() const { return order_.size(); }
     const event &operator[](std::size_t at) const { return events_[order_[at]]; }
     // The thread that wrote the event down.
-    u32 thread(std::size_t at) const { return threads_[order_[at] / PIECE]; }
+    u32 thread(std::size_t at) const { return events_[order_[at]].stamp; }
     const std::string &program() const { return program_; }
     // The object files of the program that have none of the instrumentation's calls.
     const std::string &unseen() const { return unseen_; }
@@ -48,6 +53,7 @@ private:
     // Events of one thread, one behind the other.
     struct Piece {
         u32 begin, end;
+        bool is_full;   // so the recorder has begun another one behind it, or was about to
     };
 
     void read_header();
@@ -55,7 +61,9 @@ private:
     bool is_whole(std::size_t at, std::size_t end) const;
     u32 unpack(std::size_t at, event *to) const;
     std::vector<std::size_t> find_begins() const;
+    std::vector<Piece> read_events(const std::vector<std::size_t> &begins);
     std::vector<std::vector<Piece>> read_pieces();
+    bool is_twice(const Piece &one, const Piece &other) const;
     u32 find_whole(const std::vector<std::vector<Piece>> &pieces);
     void put_in_order();
 
@@ -63,7 +71,6 @@ private:
     std::size_t length_ = 0;
     std::unique_ptr<event[]> events_;
     std::vector<u32> order_;
-    std::vector<u32> threads_;
     std::string program_, unseen_;
     bool is_cut_ = false, has_end_ = false;
 };

@@ -69,11 +69,6 @@ static inline struct frame *frame_of(const struct own *own, uint64_t place, stru
     return frame ? outer_of(own, frame) : 0;
 }
 
-static struct chain *chain_of(struct own *own) {
-    struct running *running = top_task(own);
-    return running && running->task == own->task ? &running->chain : &own->chain;
-}
-
 static inline int are_callers_known(const struct own *own, const struct chain *chain, const struct frame *frame) {
     return !frame || (chain->frame == (uint64_t)frame && chain->caller == frame->back
                       && chain->outer == (uint64_t)frame->outer && chain->task == own->task);
@@ -89,20 +84,21 @@ __attribute__((noinline)) static void note_new_callers(struct own *own, struct c
         places[callers++] = (uint32_t)offset_of(frame->back);
         frame = outer_of(own, frame);
     }
-    if (running && running->task == own->task) {
-        if (callers == 0 && !running->has_callers)
-            return;
-        running->has_callers = 1;
-    }
     write_down(own, CHAIN, number_of_event(CHAIN, 0), own->task, places[1] | places[2] << 32, places[3] | places[4] << 32,
                (int32_t)places[0], 0, 0);
 }
 
-/* That where it isn't known from the task's access before. */
-static inline void note_callers(struct own *own, struct frame *frame) {
-    struct chain *chain = chain_of(own);
+/* That where it isn't known from the task's access before; of the task's outermost function, which has none, the mark that
+   says so. */
+static inline int note_callers(struct own *own, struct frame *frame) {
+    struct running *running = top_task(own);
+    int is_own = running && running->task == own->task;
+    if (is_own && frame && (uint64_t)frame + sizeof *frame == running->base)
+        return OUTERMOST;
+    struct chain *chain = is_own ? &running->chain : &own->chain;
     if (__builtin_expect(!are_callers_known(own, chain, frame), 0))
         note_new_callers(own, chain, frame);
+    return 0;
 }
 
 static inline uint8_t row_mark(uint32_t shift) { return (uint8_t)((1 + shift) << ROW_SHIFT); }
@@ -115,7 +111,7 @@ static inline struct row *row_at(struct own *own, uint64_t place) {
     return &own->rows[(uint32_t)place * 0x9E3779B1u >> (32 - ROW_BITS)];
 }
 
-static inline uint64_t key_of(const struct own *own, uint64_t place) { return (uint64_t)own->epoch << 32 | (uint32_t)place; }
+static inline uint64_t key_of(const struct own *own, uint64_t place) { return own->part_key | (uint32_t)place; }
 
 /* What is no element of a block of its size stands alone: its block is its address, and no other block's number. */
 static inline uint64_t alone(enum kind kind, uint64_t address) { return address | 1ull << 63 | (uint64_t)kind << 56; }
@@ -147,7 +143,7 @@ __attribute__((always_inline)) static inline struct event *note_touch(struct own
     if (own->unread)
         read_written(own);
     if (own->stack_high)
-        note_callers(own, user);
+        mark |= note_callers(own, user);
     int has_number = size <= LONGEST_NUMBER && !(mark & FREED);
     uint64_t value = size > LONGEST_NUMBER ? size : kind == READ && has_number ? number_at(address, (uint32_t)size) : 0;
     struct event *event = own->last = write_down(own, kind, number_of_event(kind, mark), own->task, address, value, offset_of(place),
@@ -204,7 +200,7 @@ __attribute__((always_inline)) static inline int joins(struct own *own, struct t
         touched->bits |= bit;
     } else if (address == first->address + first->size) {
         first->size = (uint16_t)(first->size + (1u << shift));
-        first->mark = row_mark(shift);
+        first->mark = (uint8_t)(row_mark(shift) | (first->mark & OUTERMOST));
         *row_at(own, touched->key) = (struct row){address + (1u << shift), touched->key, touched->frame, touched->caller, first};
     } else {
         return 0;
@@ -220,7 +216,7 @@ static void begin_set(struct own *own, struct touched *touched, enum kind kind, 
         return;
     end_row(own, touched, shift);
     touched->set = write_down(own, kind, number_of_event(kind, 0), own->task, address >> (shift + 6) << (shift + 6), 0, offset_of(place), SET,
-                              row_mark(shift));
+                              row_mark(shift) | (touched->first->mark & OUTERMOST));
 }
 
 /* Whether nothing of the block is left out, and the place has a frame by which its callers are told apart. */
@@ -300,6 +296,8 @@ void taskback_access(enum kind kind, uint64_t address, uint64_t size, uint64_t p
     struct own *own = own_state();
     if (is_left_out(own, kind, address) || (own->is_alone && kind == READ))
         return;
+    if (own->lanes.follows)
+        taskback_part_lane(own);
     struct touched *touched = touched_at(own, alone(kind, address), place);
     if (touched->key == key_of(own, place) && touched->block == alone(kind, address) && touched->bits == size) {
         touch_again(own, touched->first, kind, size <= LONGEST_NUMBER && !(mark & FREED));
@@ -309,35 +307,25 @@ void taskback_access(enum kind kind, uint64_t address, uint64_t size, uint64_t p
     *touched = (struct touched){key_of(own, place), alone(kind, address), size, event, 0, 0, 0, 0};
 }
 
-/* A store in a worksharing loop: where it is the loop's number that is stored, an iteration begins. The first store
-   after the runtime has set the bounds, and that isn't one of these, sets the number to the lowest; then it counts up. */
-static void stored_in_loop(struct own *own, uint64_t address, uint32_t size) {
-    struct loop *loop = &own->loop;
-    if (loop->task != own->task || size != loop->size)
+/* What a function has on the stack ends with it; of one that is called again in this part it is told once. A task's outermost
+   function ends once. */
+static void end_frame(struct own *own, uint64_t low, uint64_t size, uint64_t place, int is_outermost, struct frame *user) {
+    if ((own->record_size | own->muted | own->sorted.size) && is_apart(own, low))
         return;
-    if (address == loop->bounds[0])
-        loop->is_new = 1;
-    for (int i = 0; i < 4; i++)
-        if (loop->bounds[i] == address)
-            return;
-    const struct running *running = top_task(own);
-    if (!loop->number && running && address - own->stack_low < running->base - own->stack_low)
-        loop->number = address;
-    if (address != loop->number)
-        return;
-    if (!loop->is_new && number_at(address, size) != loop->value) {
-        loop->is_on = 0;    /* it isn't the number, which optimised code keeps in no memory */
+    if (own->lanes.follows)
+        taskback_part_lane(own);
+    if (is_outermost) {
+        own->frame_end = note_touch(own, WRITE, low, size, place, FREED | FRAME | OUTERMOST, user);
         return;
     }
-    loop->value = loop->is_new ? number_at(loop->bounds[0], size) : loop->value + 1;
-    loop->is_new = 0;
-    begin_part(own);
-    taskback_note(own, ITERATION, own->task, address, loop->value, 0);
+    struct touched *touched = touched_at(own, alone(WRITE, low), place);
+    if (touched->key == key_of(own, place) && touched->block == alone(WRITE, low) && touched->bits == size) {
+        touch_again(own, touched->first, WRITE, 0);
+        return;
+    }
+    struct event *event = note_touch(own, WRITE, low, size, place, FREED | FRAME, user);
+    *touched = (struct touched){key_of(own, place), alone(WRITE, low), size, event, 0, 0, 0, 0};
 }
-
-void __tsan_init(void) {}
-void __tsan_ignore_thread_begin(void) {}
-void __tsan_ignore_thread_end(void) {}
 
 /* The first function that a task enters shows where its part of the stack begins; all below is new to it. What a
    function has on the stack no other task knows of until the function meets the runtime. */
@@ -347,10 +335,8 @@ void __tsan_func_entry(void *caller) {
     uint64_t top = (uint64_t)__builtin_frame_address(1) + 16;
     if (top - own->stack_low > own->quiet_span)
         own->quiet_span = own->stack_low ? top - own->stack_low : 0;
-    if (own->depth == 0 || own->depth > RUNNING_MOST)
-        return;
-    struct running *running = &own->running[own->depth - 1];
-    if (running->base)
+    struct running *running = top_task(own);
+    if (!running || running->base)
         return;
     running->base = top;
     struct event *start = own->next - 1;
@@ -360,25 +346,33 @@ void __tsan_func_entry(void *caller) {
     }
     start->address = own->stack_low;
     start->value = top - own->stack_low;
-    start->mark = STACK;
+    start->mark |= STACK;
 }
 
 /* What a function has on the stack ends with it, as a block that is given back. A task's first function is that task's to
    its end: of an untied task the runtime says at the latest call in it, or not at all, that it leaves the thread. */
-void __tsan_func_exit(void) {
-    struct own *own = own_state();
-    uint64_t top = (uint64_t)__builtin_frame_address(1) + 16, low = (uint64_t)__builtin_frame_address(0) + 16;
-    int is_followed = own->depth > 0 && own->depth <= RUNNING_MOST;
-    struct running *running = &own->running[is_followed ? own->depth - 1 : 0];
-    int is_outermost = is_followed && running->base == top;
-    if (is_outermost)
-        own->task = running->task;
+__attribute__((noinline)) static void leave_function(struct own *own, uint64_t place, struct frame *frame) {
+    struct running *running = top_task(own);
+    uint64_t low = (uint64_t)frame + 16, top = (uint64_t)frame->outer + 16;
+    int is_outermost = running && running->base == top;
     if (top - own->stack_low > own->quiet_span && top > low)
-        taskback_access(WRITE, low, top - low, PLACE, FREED | FRAME | (is_outermost ? OUTERMOST : 0));
+        end_frame(own, low, top - low, place, is_outermost, outer_of(own, frame));
     if (!is_outermost || !running->is_untied)
         return;
     own->task = running->prior;
     taskback_pop_task(own, running->task);
+}
+
+/* Nobody else knows of most functions' variables. */
+void __tsan_func_exit(void) {
+    struct own *own = own_state();
+    uint64_t top = (uint64_t)__builtin_frame_address(1) + 16;
+    struct running *running = top_task(own);
+    int is_outermost = running && running->base == top;
+    if (is_outermost)
+        own->task = running->task;
+    if (top - own->stack_low > own->quiet_span || (is_outermost && running->is_untied))
+        leave_function(own, PLACE, __builtin_frame_address(0));
 }
 
 /* By the pass: what stands below on the stack ends there, as arrays whose length the program computes do with their block. */
@@ -394,39 +388,97 @@ static inline int is_quiet(const struct own *own, const void *address) {
     return (uint64_t)address - own->stack_low < own->quiet_span || (uint64_t)address - own->quiet_record < own->quiet_size;
 }
 
-/* Most calls end here. */
-__attribute__((always_inline)) static inline void touch(struct own *own, enum kind kind, uint64_t address, uint32_t shift, uint64_t place, struct frame *frame) {
-    uint64_t block = address >> (shift + 6), bit = 1ull << (address >> shift & 63);
-    struct touched *touched = touched_at(own, block, place);
-    int is_aligned = (address & ((1u << shift) - 1)) == 0;
-    if (touched->key != key_of(own, place) || touched->block != block) {
-        if (!is_aligned)
-            touch_more(own, kind, address, shift, place, frame);
-        else if (kind == READ)
-            load_first(own, address, shift, touched, place, frame);
-        else
-            store_first(own, address, shift, touched, place, frame);
-    } else if (!is_aligned || !(told_of(touched, shift) & bit ? is_known(own, touched, kind, address) : joins(own, touched, address, shift, bit, frame))) {
+/* An element of a block that the place has touched. */
+__attribute__((noinline)) static void touch_known(struct own *own, enum kind kind, uint64_t address, uint32_t shift, uint64_t place, struct frame *frame) {
+    uint64_t bit = 1ull << (address >> shift & 63);
+    struct touched *touched = touched_at(own, address >> (shift + 6), place);
+    if (!(told_of(touched, shift) & bit ? is_known(own, touched, kind, address) : joins(own, touched, address, shift, bit, frame)))
         touch_more(own, kind, address, shift, place, frame);
-    }
+}
+
+/* Each way ends with a call, so that none has registers to keep. */
+__attribute__((always_inline)) static inline void touch(struct own *own, enum kind kind, uint64_t address, uint32_t shift, uint64_t place, struct frame *frame) {
+    uint64_t block = address >> (shift + 6);
+    struct touched *touched = touched_at(own, block, place);
+    if (address & ((1u << shift) - 1))
+        touch_more(own, kind, address, shift, place, frame);
+    else if (touched->key == key_of(own, place) && touched->block == block)
+        touch_known(own, kind, address, shift, place, frame);
+    else if (kind == READ)
+        load_first(own, address, shift, touched, place, frame);
+    else
+        store_first(own, address, shift, touched, place, frame);
+}
+
+/* Whether a lane's access is the next one of those that it follows, and so isn't written down. */
+static inline int follows(struct lanes *lanes, uint64_t address, uint64_t place, const struct frame *user) {
+    if (!lanes->follows || lanes->met == lanes->known)
+        return 0;
+    struct lane_step *step = &lanes->steps[lanes->met];
+    if (step->address != address || step->place != place || step->frame != (uint64_t)user || step->caller != user->back)
+        return 0;
+    step->address += step->stride;
+    lanes->met++;
+    return 1;
+}
+
+/* In a `simd` loop. */
+__attribute__((noinline)) static void touch_in_lane(struct own *own, enum kind kind, uint64_t address, uint32_t shift, uint64_t place,
+                                                    struct frame *frame) {
+    if (follows(&own->lanes, address, place, frame->outer) || is_quiet(own, (const void *)address) || (own->is_alone && kind == READ))
+        return;
+    if (own->lanes.follows)
+        taskback_part_lane(own);
+    touch(own, kind, address, shift, place, frame);
+    struct frame *user = outer_of(own, frame);
+    taskback_lane_steps(own, &(struct lane_step){address, 0, (uint64_t)user, user ? user->back : 0, place, shift, kind, 0});
+}
+
+/* What isn't the next element of a row. The calls below end with a call of these, as these do, so that those that go on have
+   no registers to keep; `frame` is then that of the call still. */
+__attribute__((noinline)) static void load(struct own *own, uint64_t address, uint32_t shift, uint64_t place, struct frame *frame) {
+    if (own->lanes.depth)
+        touch_in_lane(own, READ, address, shift, place, frame);
+    else if (!is_quiet(own, (const void *)address) && !own->is_alone)
+        touch(own, READ, address, shift, place, frame);
+}
+
+__attribute__((noinline)) static void store(struct own *own, uint64_t address, uint32_t shift, uint64_t place, struct frame *frame) {
+    if (own->lanes.depth)
+        touch_in_lane(own, WRITE, address, shift, place, frame);
+    else if (!is_quiet(own, (const void *)address))
+        touch(own, WRITE, address, shift, place, frame);
+}
+
+/* By a thread that is new, or in a worksharing loop, of which it may be the number that is stored. */
+__attribute__((noinline)) static void load_apart(uint64_t address, uint32_t shift, uint64_t place, struct frame *frame) {
+    load(own_state(), address, shift, place, frame);
+}
+
+__attribute__((noinline)) static void store_apart(uint64_t address, uint32_t shift, uint64_t place, struct frame *frame) {
+    struct own *own = own_state();
+    if (own->loop.is_on)
+        taskback_stored_in_loop(own, address, 1u << shift);
+    if (!goes_on(own, address, shift, place, frame))
+        store(own, address, shift, place, frame);
 }
 
 #define FRAME_HERE ((struct frame *)__builtin_frame_address(0))
-#define LOAD(bytes)                                                                           \
-    void __sanitizer_cov_load##bytes(void *address) {                                         \
-        struct own *own = own_state();                                                        \
-        if (!goes_on(own, (uint64_t)address, __builtin_ctz(bytes), PLACE, FRAME_HERE)         \
-            && !is_quiet(own, address) && !own->is_alone)                                     \
-            touch(own, READ, (uint64_t)address, __builtin_ctz(bytes), PLACE, FRAME_HERE);     \
+#define LOAD(bytes)                                                                         \
+    void __sanitizer_cov_load##bytes(void *address) {                                       \
+        struct own *own = taskback_own;                                                     \
+        if (__builtin_expect(!own, 0))                                                      \
+            load_apart((uint64_t)address, __builtin_ctz(bytes), PLACE, FRAME_HERE);         \
+        else if (!goes_on(own, (uint64_t)address, __builtin_ctz(bytes), PLACE, FRAME_HERE)) \
+            load(own, (uint64_t)address, __builtin_ctz(bytes), PLACE, FRAME_HERE);          \
     }
-#define STORE(bytes)                                                                          \
-    void __sanitizer_cov_store##bytes(void *address) {                                        \
-        struct own *own = own_state();                                                        \
-        if (__builtin_expect(own->loop.is_on, 0))                                             \
-            stored_in_loop(own, (uint64_t)address, bytes);                                    \
-        if (!goes_on(own, (uint64_t)address, __builtin_ctz(bytes), PLACE, FRAME_HERE)         \
-            && !is_quiet(own, address))                                                       \
-            touch(own, WRITE, (uint64_t)address, __builtin_ctz(bytes), PLACE, FRAME_HERE);    \
+#define STORE(bytes)                                                                        \
+    void __sanitizer_cov_store##bytes(void *address) {                                      \
+        struct own *own = taskback_own;                                                     \
+        if (__builtin_expect(!own || own->loop.is_on, 0))                                   \
+            store_apart((uint64_t)address, __builtin_ctz(bytes), PLACE, FRAME_HERE);        \
+        else if (!goes_on(own, (uint64_t)address, __builtin_ctz(bytes), PLACE, FRAME_HERE)) \
+            store(own, (uint64_t)address, __builtin_ctz(bytes), PLACE, FRAME_HERE);         \
     }
 #define BOTH(bytes) LOAD(bytes) STORE(bytes)
 BOTH(1)
@@ -445,7 +497,3 @@ void taskback_store(void *address, uint64_t size) {
     if (!is_quiet(own_state(), address))
         taskback_access(WRITE, (uint64_t)address, size, PLACE, 0);
 }
-
-/* The thread instrumentation tells virtual tables' pointers apart; coverage has their loads and stores already. */
-void __tsan_vptr_update(void **address, void *value) { (void)address, (void)value; }
-void __tsan_vptr_read(void **address) { (void)address; }

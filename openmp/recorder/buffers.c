@@ -22,7 +22,7 @@ int taskback_is_recording;
 static struct own *all_threads;
 struct counter taskback_counter;
 uint64_t taskback_base;
-static uint32_t thread_count;
+uint32_t taskback_thread_count;
 static uint64_t file_end = HEADER;
 static uint64_t thread_local_size;
 static int file = -1;
@@ -109,11 +109,14 @@ static void run_out_of_room(void) {
 
 /* Where there is no room the rest is left out, and the trace's numbers show that some are missing. */
 void taskback_turn_page(struct own *own) {
+    own->lanes.follows = 0;
     begin_part(own);
     int is_recording = __atomic_load_n(&taskback_is_recording, __ATOMIC_ACQUIRE);
     own->next = own->part = own->events + 1;
-    own->started = 0;
-    if (is_recording && keep_piece(own))
+    own->started = own->frame_end = 0;
+    int is_kept = is_recording && keep_piece(own);
+    own->events->place = 0;
+    if (is_kept)
         return;
     if (is_recording)
         run_out_of_room();
@@ -163,8 +166,8 @@ static void find_strangers(struct own *own) {
 struct own *taskback_adopt(void) {
     struct own *own = fresh_memory(sizeof *own);
     taskback_own = own;
-    own->epoch = 1;
-    own->index = __atomic_fetch_add(&thread_count, 1, __ATOMIC_RELAXED);
+    own->part_key = PART;
+    own->index = __atomic_fetch_add(&taskback_thread_count, 1, __ATOMIC_RELAXED);
     find_strangers(own);
     own->tls_size = thread_local_size;
     own->tls_low = (uint64_t)__builtin_thread_pointer() - thread_local_size;
@@ -178,6 +181,8 @@ struct own *taskback_adopt(void) {
 
 struct event *taskback_note(struct own *own, enum kind kind, uint32_t task, uint64_t address, uint64_t value,
                             uint64_t place) {
+    if (own->lanes.follows)
+        taskback_part_lane(own);
     return note(own, kind, task, address, value, place);
 }
 
@@ -194,7 +199,7 @@ static int put_header(void) {
     path[length > 0 ? length : 0] = 0;
     for (int i = 0; i < HEADER; i++)
         page[i] = '\n';
-    int at = add(page, 0, HEADER - 2, "taskback trace 3 ");
+    int at = add(page, 0, HEADER - 2, "taskback trace 4 ");
     at = add(page, at, HEADER - 2, path) + 1;
     if (&taskback_unseen_objects != 0)
         add(page, at, HEADER - 2, taskback_unseen_objects);
@@ -210,7 +215,7 @@ static void leave_to_the_parent(void) {
     if (taskback_own) {
         taskback_own->unread = 0;
         use_piece(taskback_own, fresh_memory(PIECE));
-        taskback_own->epoch++;
+        taskback_own->part_key += PART;
     }
 }
 

@@ -6,10 +6,13 @@
 
 /* The kinds of events. */
 enum kind {
-    CREATE = 1,     /* task: the creator; address: the child; value: its flags; place: the directive */
+    CREATE = 1,     /* task: the creator; address: the child; value: its flags; place: the directive. With a size the
+                       child's record is new, which has that size and is at the address, the child is the lower half of
+                       value, and its flags are the upper one */
     ITEM,           /* task: the child; address; value: the length; mark: the type's bits */
-    START,          /* task; mark: STACK where address, value are its part of the stack, which is new */
-    END,            /* task; mark: STACK where address, value are its part of the stack, which is new from here on */
+    START,          /* task; mark: STACK where address, value are its part of the stack, which is new; COUNTED */
+    END,            /* task; mark: STACK where address, value are its part of the stack, which is new from here on. With a
+                       size the frame of its outermost function, the part's upper end, has ended in front of it, at place */
     WAIT,           /* task: it has passed a taskwait */
     WAIT_ITEM,      /* task; the rest as of ITEM; in front of its WAIT_ITEMS */
     WAIT_ITEMS,     /* task: it has passed a taskwait with items */
@@ -34,7 +37,7 @@ enum kind {
     COPY,           /* address: a thread's copy of a reduced variable; value: the variable, which is its own copy where the
                        thread is alone; with a size, its own */
     CHUNK,          /* the first of each piece of the file; address: the thread's number; value: of a packed piece the
-                       bytes that follow; it has no stamp */
+                       bytes that follow; place: for how many more events those of lanes stand; it has no stamp */
     ENDED,          /* the program has come to its end */
     LOOP_BEGIN,     /* task: an implicit task; address: how many iterations; value: the chunk's size, 0 for none; mark */
     ITERATION,      /* task; address: of the loop's number, or 0; value: the number; mark: HANDED_OUT */
@@ -55,10 +58,15 @@ enum kind {
     LAST_BEGIN,     /* task: from here on it does what falls to who did the last iteration of a loop */
     LAST_END,       /* task */
     LANES_BEGIN,    /* task: a `simd` loop; value: its `safelen`, 0 for none */
-    LANE,           /* task: its next iteration; address, value: the stack below its function, which is new */
+    LANE,           /* task: its next iteration; address, value: the stack below its function, which is new; size: how many
+                       more follow that have the same loads and stores, whose numbers aren't kept: these are the next
+                       events, up to STRIDES */
     LANES_END,      /* task */
-    CHAIN           /* task: its next loads and stores are in a function that was called at place, its caller at the low
+    CHAIN,          /* task: its next loads and stores are in a function that was called at place, its caller at the low
                        half of address, and so on: the high half, and the halves of value */
+    STRIDES         /* task; by how many bytes the loads and stores of a lane are farther than those of the one before: the
+                       low half of address for the first, then its high one, and the halves of value; the others by more of
+                       these events */
 };
 
 /* What the notation has no word for, and what else is told of a run. */
@@ -71,17 +79,17 @@ enum note {
     NOTE_ONE_TEAM           /* the next league has one team by a clause */
 };
 
-/* Marks of a READ or WRITE; what is freed may be the frame of a function that ends, of a task's
-   outermost one; a block that is freed and has no size is as large as it was when it was taken. */
+/* Marks of a READ or WRITE; what is freed may be the frame of a function that ends. OUTERMOST: a task's outermost function
+   does it, whom nobody has called. A block that is freed and has no size is as large as it was when it was taken. */
 enum mark { ATOMIC = 1, FREED = 2, LIBRARY = 4, FRAME = 8, OUTERMOST = 16 };
 
 /* Above these marks stands, of several elements, 1 and the power of two that is the size of each. */
 enum { ROW_SHIFT = 5 };
 
-/* Marks of a loop, of an iteration, of a release, of a lock that several may hold, and of a task's
-   own part of a stack. */
+/* Marks of a loop, of an iteration, of a release, of a lock that several may hold, of a task's own part of a stack, and of a
+   start that has raised the counter, since there are several threads. */
 enum { LOOP_STATIC = 1, LOOP_ORDERED = 2, HANDED_OUT = 1, KEEPS = 1, GUARD = 2, NOTHING = 4, DOWN = 8, UP = 8, SHARED = 1,
-       REDUCES = 2, STACK = 1, TEAMS = 1 };
+       REDUCES = 2, STACK = 1, TEAMS = 1, COUNTED = 2 };
 
 /* 32 bytes: what is written is most of what recording costs. */
 struct event {
@@ -96,11 +104,13 @@ struct event {
 };
 
 /* Whether the event raises the one counter. The others, on which no order between threads hangs, have the number that it
-   had: what is given back comes in front of who takes it next, and all else between two threads is ordered by numbers. */
+   had: what is given back comes in front of who takes it next, and all else between two threads is ordered by numbers. A
+   wait is behind ends, which have taken one; so is a start, but there may be items in front of it that another thread wrote. */
 static inline int takes_number(uint8_t kind, uint8_t mark) {
     switch (kind) {
     case WRITE: return (mark & FREED) && !(mark & FRAME);
-    case READ: case CHAIN: case MEMORY: case ITEM: case WAIT_ITEM: case ITERATION: case LANE: case COPY: case NOTE: return 0;
+    case START: return (mark & COUNTED) != 0;
+    case WAIT: case READ: case CHAIN: case MEMORY: case ITEM: case WAIT_ITEM: case ITERATION: case LANE: case STRIDES: case COPY: case NOTE: return 0;
     default: return 1;
     }
 }
@@ -109,5 +119,5 @@ static inline int takes_number(uint8_t kind, uint8_t mark) {
 #define NO_ROOM "no room\n"
 
 /* The sizes of a READ or WRITE that are none: the size is the value; the value has a bit for each of 64 elements. */
-enum { LARGE = 0xffff, SET = 0xfffe, LONGEST_NUMBER = 16, CALLERS = 5 };
+enum { LARGE = 0xffff, SET = 0xfffe, LONGEST_NUMBER = 16, CALLERS = 5, LANE_STEPS = 8 };
 #endif

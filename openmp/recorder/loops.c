@@ -30,6 +30,36 @@ static void watch_number(struct own *own, void *last, void *low, void *high, voi
     own->loop = (struct loop){0, {(uint64_t)low, (uint64_t)last, (uint64_t)high, (uint64_t)stride}, 0, size, own->task, 1, 1};
 }
 
+static uint64_t number_at(uint64_t address, uint32_t size) {
+    return size == 4 ? (uint64_t)(int64_t)*(const volatile int32_t *)address : *(const volatile uint64_t *)address;
+}
+
+/* A store in a worksharing loop: where it is the loop's number that is stored, an iteration begins. The first store
+   after the runtime has set the bounds, and that isn't one of these, sets the number to the lowest; then it counts up. */
+void taskback_stored_in_loop(struct own *own, uint64_t address, uint32_t size) {
+    struct loop *loop = &own->loop;
+    if (loop->task != own->task || size != loop->size)
+        return;
+    if (address == loop->bounds[0])
+        loop->is_new = 1;
+    for (int i = 0; i < 4; i++)
+        if (loop->bounds[i] == address)
+            return;
+    const struct running *running = own->depth > 0 && own->depth <= RUNNING_MOST ? &own->running[own->depth - 1] : 0;
+    if (!loop->number && running && address - own->stack_low < running->base - own->stack_low)
+        loop->number = address;
+    if (address != loop->number)
+        return;
+    if (!loop->is_new && number_at(address, size) != loop->value) {
+        loop->is_on = 0;    /* it isn't the number, which optimised code keeps in no memory */
+        return;
+    }
+    loop->value = loop->is_new ? number_at(loop->bounds[0], size) : loop->value + 1;
+    loop->is_new = 0;
+    begin_part(own);
+    taskback_note(own, ITERATION, own->task, address, loop->value, 0);
+}
+
 /* There where the pass has made the calls, of a program that isn't optimised. */
 extern __attribute__((weak)) const char taskback_tells_last;
 

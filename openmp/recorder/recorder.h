@@ -20,6 +20,9 @@ static inline void set_size(struct event *event, uint64_t size) {
 
 enum { RUNNING_MOST = 1024, TOUCHED_BITS = 10, ROW_BITS = 6, BUSY = 64, BUFFER = 2048, FENCED = 4, NESTED = 8 };
 
+/* Parts of tasks are numbered in the upper halves of keys. */
+#define PART (1ull << 32)
+
 /* The function whose callers were written down last for a task. */
 struct chain {
     uint64_t frame, caller, outer;
@@ -31,7 +34,6 @@ struct running {
     uint32_t task;
     uint32_t prior;            /* what ran on the thread before */
     uint8_t is_untied;
-    uint8_t has_callers;       /* some of its accesses have callers that were written down */
     uint64_t base;
     uint64_t record, shared;   /* the runtime's record, and its pointers to what the task shares; 0: not known */
     struct chain chain;
@@ -67,12 +69,27 @@ struct loop {
     int is_on;
 };
 
+/* A load or store of a lane, which the next one may make farther on. */
+struct lane_step {
+    uint64_t address, stride;
+    uint64_t frame, caller;    /* of the function that makes it, and where it was called */
+    uint64_t place;
+    uint32_t shift;
+    enum kind kind;
+    uint8_t mark;
+};
+
 /* A `simd` loop that the thread is in. */
 struct lanes {
     uint32_t depth;            /* of such loops within each other */
     uint32_t task;             /* that is in the outermost one */
     uint64_t count;
     int was_alone;
+    int follows;               /* the lane does what the one before did, as far as it has come */
+    int is_alike;              /* so it does, but each of its steps is written down */
+    uint32_t met, known;       /* how many steps it has made, and how many the one before has made */
+    struct event *event;       /* its own, or that of the first lane that it follows */
+    struct lane_step steps[LANE_STEPS]; /* its own, those to come by the one before; where it follows, the next ones */
 };
 
 /* An array that is being sorted, and the room for that: the sort's own. */
@@ -89,20 +106,23 @@ struct own {
     struct chain chain;        /* of a task that isn't among those that run here */
     struct event *part;        /* behind what was written down in front of the part that is under way */
     struct event *started;     /* the last task's start */
+    struct event *frame_end;   /* the end of the frame of its outermost function */
     uint64_t quiet_record, quiet_size; /* the task's record, while no other task can know of it */
     uint64_t quiet_span;       /* from stack_low on: memory that no other task can know of */
     uint64_t stack_low;
     struct event *unread;      /* a write whose number is read at the thread's next call */
     struct event *last;        /* the last load or store, which may turn out to be an atomic operation's */
     int is_alone;              /* no other task and no other thread is there that could touch memory */
+    uint64_t part_key;         /* its upper half rises at each call that isn't an access */
     uint32_t index;            /* the thread's number */
     uint32_t task;             /* the task that runs */
+    uint32_t task_number;      /* the last one that the thread has given to a task */
     uint32_t muted;            /* a task whose accesses are the runtime's */
-    uint32_t epoch;            /* rises at each call that isn't an access */
     uint32_t depth;
     uint64_t tls_low, tls_size;
     struct sorted sorted;
     uint64_t record, record_size; /* a task's record that is being filled, before its task is created */
+    uint64_t untold_record, untold_size; /* one that is new, which isn't yet written down */
     uint64_t made_size;        /* of the record that was filled last */
     uint32_t record_creator;
     int undeferred;            /* the children are that `caller` creates */
@@ -145,6 +165,9 @@ struct event *taskback_note(struct own *own, enum kind kind, uint32_t task, uint
 /* Reads the number of the last write. */
 void taskback_read_written(struct own *own);
 
+/* The lane under way is no more as the one before: what it has done is written down. */
+void taskback_part_lane(struct own *own);
+
 static inline void taskback_settle(struct own *own) {
     if (own->unread)
         taskback_read_written(own);
@@ -152,10 +175,12 @@ static inline void taskback_settle(struct own *own) {
 
 /* From here on the same access counts again. */
 static inline void begin_part(struct own *own) {
+    if (__builtin_expect(own->lanes.follows, 0))
+        taskback_part_lane(own);
     taskback_settle(own);
     own->last = 0;
     own->part = own->next;
-    own->epoch++;
+    own->part_key += PART;
 }
 
 /* Whether the part has so much to tell that not each number is kept. */
@@ -172,6 +197,12 @@ static inline void begin_loud_part(struct own *own) {
 
 /* An access of `size` bytes by the thread's task. */
 void taskback_access(enum kind kind, uint64_t address, uint64_t size, uint64_t place, int mark);
+
+/* In a worksharing loop, whose number may be what was stored. */
+void taskback_stored_in_loop(struct own *own, uint64_t address, uint32_t size);
+
+/* A lane's access was written down last, or none was. */
+void taskback_lane_steps(struct own *own, const struct lane_step *step);
 
 /* What a function of the library does to the program's memory. */
 void taskback_touches(enum kind kind, const void *address, size_t size, uint64_t place);
@@ -212,8 +243,11 @@ void taskback_fence(void);
 /* A lock that is held from here on, or up to here. */
 void taskback_note_lock(enum kind kind, const void *lock, uint64_t place);
 
-/* Which task may fill which record of a loop's tasks. */
+/* The thread's task fills a record, which is new. */
 void taskback_fill_record(struct own *own, uint64_t record, uint64_t size);
+
+/* Writes down that it is new, where the making of its task isn't what comes next. */
+void taskback_tell_record(struct own *own);
 
 #define PLACE ((uint64_t)__builtin_return_address(0))
 #endif

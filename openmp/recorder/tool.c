@@ -4,7 +4,9 @@
 #include "writing.h"
 
 /* A task's data is its number with these below, and above it the size of its record. */
-enum { STARTED = 1, UNTIED = 2, NUMBER_SHIFT = 2, SIZE_SHIFT = 34, SIZE_MOST = 1 << 16 };
+enum { STARTED = 1, UNTIED = 2, NUMBER_SHIFT = 2, SIZE_SHIFT = 34, SIZE_MOST = SET };
+/* How many numbers of tasks a thread takes at once. */
+enum { NUMBERS = 64 };
 
 int taskback_has_tool;
 int taskback_has_strangers;
@@ -13,9 +15,10 @@ static uint64_t region_count;
 
 static uint32_t number_of(const ompt_data_t *data) { return data ? (uint32_t)(data->value >> NUMBER_SHIFT) : 0; }
 
-static void name_task(ompt_data_t *data, uint64_t marks) {
-    uint64_t number = __atomic_add_fetch(&task_count, 1, __ATOMIC_RELAXED);
-    data->value = number << NUMBER_SHIFT | marks;
+static void name_task(struct own *own, ompt_data_t *data, uint64_t marks) {
+    if (own->task_number % NUMBERS == 0)
+        own->task_number = __atomic_fetch_add(&task_count, NUMBERS, __ATOMIC_RELAXED);
+    data->value = (uint64_t)++own->task_number << NUMBER_SHIFT | marks;
 }
 
 struct event *taskback_new_memory(struct own *own, uint64_t address, uint64_t size, uint64_t place) {
@@ -41,7 +44,14 @@ static void push_task(struct own *own, uint32_t task, uint32_t prior, int is_unt
     if (own->depth < RUNNING_MOST) {
         uint64_t record = data && record_distance ? (uint64_t)data + record_distance : 0;
         uint64_t shared = record ? *(const uint64_t *)record : 0;
-        own->running[own->depth] = (struct running){task, prior, (uint8_t)is_untied, 0, 0, record, shared, {0}};
+        struct running *top = &own->running[own->depth];
+        top->task = task;
+        top->prior = prior;
+        top->is_untied = (uint8_t)is_untied;
+        top->base = 0;
+        top->record = record;
+        top->shared = shared;
+        top->chain.frame = 0;
         own->quiet_record = record;
         own->quiet_size = record ? data->value >> SIZE_SHIFT : 0;
     } else {
@@ -84,6 +94,20 @@ static void note_items(struct own *own, uint32_t child, int count, const void *i
         note(own, ITEM, child, item[i].address, item[i].length, 0)->mark = item[i].type;
 }
 
+/* The record that the creator has filled is new from the child's making on, if it is the child's: then one event says both. */
+static void note_made(struct own *own, uint32_t creator, uint32_t child, uint64_t flags, uint64_t place) {
+    uint64_t record = own->untold_record, size = own->untold_size;
+    int is_childs = own->record_creator == creator && (!own->made || own->made == record) && size <= SIZE_MOST;
+    if (size && !is_childs)
+        taskback_tell_record(own);
+    if (!size || !is_childs) {
+        note(own, CREATE, creator, child, flags, place);
+        return;
+    }
+    own->untold_size = 0;
+    note(own, CREATE, creator, record, child | flags << 32, place)->size = (uint16_t)size;
+}
+
 static void on_create(ompt_data_t *creator, const ompt_frame_t *frame, ompt_data_t *child, int flags, int depends,
                       const void *place) {
     (void)frame, (void)depends;
@@ -91,7 +115,7 @@ static void on_create(ompt_data_t *creator, const ompt_frame_t *frame, ompt_data
     if (flags & (ompt_task_initial | ompt_task_taskwait))
         return;
     begin_loud_part(own);
-    name_task(child, flags & ompt_task_untied ? UNTIED : 0);
+    name_task(own, child, flags & ompt_task_untied ? UNTIED : 0);
     child->value |= record_size(own, number_of(creator)) << SIZE_SHIFT;
     uint64_t kept = (uint32_t)flags & ~(uint32_t)ompt_task_undeferred;
     uint64_t where = (uint64_t)place;
@@ -104,16 +128,36 @@ static void on_create(ompt_data_t *creator, const ompt_frame_t *frame, ompt_data
         own->is_alone = 0;
         taskback_has_strangers = 1;
     }
-    note(own, CREATE, number_of(creator), number_of(child), kept, where);
+    note_made(own, number_of(creator), number_of(child), kept, where);
     learn_distance(own, child);
     note_items(own, number_of(child), own->item_count, own->items);
     note_items(own, number_of(child), own->more_count, own->more_items);
     own->item_count = own->more_count = 0;
 }
 
+/* The end of the outermost function's frame, which is written down last, becomes the task's: until that is whole the event
+   has no kind. */
+static int end_with_frame(struct own *own, uint32_t task, uint64_t stack) {
+    struct event *event = own->next - 1;
+    if (event != own->frame_end || event->task != task)
+        return 0;
+    uint64_t size = event->size == LARGE ? event->value : event->size;
+    if (size >= SET || event->address + size != own->stack_low + stack)
+        return 0;
+    uint32_t place = (uint32_t)event->place;
+    __atomic_store_n((half *)&event->place, 0, __ATOMIC_RELEASE);
+    event->address = own->stack_low;
+    event->value = stack;
+    event->stamp = number_of_event(END, STACK);
+    __atomic_store_n((half *)&event->place, last_half((int32_t)place, (uint16_t)size, END, STACK), __ATOMIC_RELEASE);
+    return 1;
+}
+
 static void finish(struct own *own, uint32_t task, uint64_t stack) {
     begin_part(own);
-    note(own, END, task, stack ? own->stack_low : 0, stack, 0)->mark = stack ? STACK : 0;
+    if (!stack || !end_with_frame(own, task, stack))
+        note(own, END, task, stack ? own->stack_low : 0, stack, 0)->mark = stack ? STACK : 0;
+    own->frame_end = 0;
 }
 
 static int runs_here(const struct own *own, uint32_t task) {
@@ -131,12 +175,12 @@ static void go_on(struct own *own, ompt_data_t *next, uint32_t before) {
         if (is_untied && !runs_here(own, own->task)) {
             note(own, RESUME, own->task, 0, 0, 0);
             push_task(own, own->task, before, 1, 0);
-            own->running[own->depth <= RUNNING_MOST ? own->depth - 1 : 0].has_callers = 1;
         }
         return;
     }
     next->value |= STARTED;
-    own->started = note(own, START, own->task, 0, 0, 0);
+    int mark = __atomic_load_n(&taskback_thread_count, __ATOMIC_RELAXED) > 1 ? COUNTED : 0;
+    own->started = write_down(own, START, number_of_event(START, mark), own->task, 0, 0, 0, 0, mark);
     push_task(own, own->task, before, is_untied, next);
 }
 
@@ -243,7 +287,7 @@ static void on_implicit(ompt_scope_endpoint_t end, ompt_data_t *region, ompt_dat
         return;
     }
     uint32_t before = own->task;
-    name_task(task, STARTED);
+    name_task(own, task, STARTED);
     own->task = number_of(task);
     /* Of a league with one team the runtime doesn't say which region it is. */
     uint64_t where = region && region->value ? region->value : flags & ompt_task_initial ? own->met : 0;
@@ -272,7 +316,7 @@ static void on_unlock(ompt_mutex_t kind, ompt_wait_id_t lock, const void *place)
 
 static void on_cancel(ompt_data_t *task, int flags, const void *place) {
     (void)flags;
-    note(own_state(), NOTE, number_of(task), 0, NOTE_CANCEL, (uint64_t)place);
+    taskback_note(own_state(), NOTE, number_of(task), 0, NOTE_CANCEL, (uint64_t)place);
 }
 
 static int begin(ompt_function_lookup_t look_up, int device, ompt_data_t *data) {

@@ -80,9 +80,17 @@ void *__wrap___kmpc_omp_task_alloc(void *at, int32_t thread, int32_t flags, size
     return record;
 }
 
+void taskback_tell_record(struct own *own) {
+    if (own->untold_size)
+        taskback_new_memory(own, own->untold_record, own->untold_size, 0);
+    own->untold_size = 0;
+}
+
 void taskback_fill_record(struct own *own, uint64_t record, uint64_t size) {
-    taskback_new_memory(own, record, size, 0);
-    own->record = record;
+    taskback_tell_record(own);
+    begin_part(own);
+    own->untold_record = own->record = record;
+    own->untold_size = size;
     own->record_size = size;
     own->record_creator = own->task;
 }
@@ -253,6 +261,7 @@ void __wrap___kmpc_taskloop(void *at, int32_t thread, void *task, int32_t deferr
                             int64_t stride, int32_t no_group, int32_t schedule, uint64_t grain, void *copy) {
     struct own *own = own_state();
     keep_copied((const void *)entered_of(task)->entry, (copy_function *)copy, own->record_size);
+    taskback_tell_record(own);
     struct call call = enter(PLACE, !deferred);
     keep_items(call.own, 0, 0, 0, 0);
     __real___kmpc_taskloop(at, thread, task, deferred, low, high, stride, no_group, schedule, grain, (void *)copy_record);

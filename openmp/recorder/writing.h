@@ -8,6 +8,9 @@
 struct counter { uint32_t last; char rest[124]; } __attribute__((aligned(128)));
 extern struct counter taskback_counter;
 
+/* How many threads write events down. */
+extern uint32_t taskback_thread_count;
+
 /* From where the program is loaded. */
 extern uint64_t taskback_base;
 
@@ -16,6 +19,8 @@ void taskback_turn_page(struct own *own);
 
 /* A place, counted from where the program is loaded; 0: it isn't in it. */
 static inline int32_t offset_of(uint64_t place) {
+    if (__builtin_constant_p(place) && place == 0)
+        return 0;
     int64_t offset = (int64_t)(place - taskback_base);
     return offset > 0 && offset <= INT32_MAX ? (int32_t)offset : 0;
 }
@@ -30,6 +35,10 @@ typedef uint64_t __attribute__((may_alias)) half;
 _Static_assert(offsetof(struct event, place) == 24 && offsetof(struct event, kind) == 30 && sizeof(struct event) == 32,
                "the last eight bytes are one store");
 
+static inline half last_half(int32_t place, uint16_t size, enum kind kind, int mark) {
+    return (uint32_t)place | (uint64_t)size << 32 | (uint64_t)kind << 48 | (uint64_t)(uint8_t)mark << 56;
+}
+
 /* Behind what is written down last stands an event without a kind, at which the piece ends. */
 __attribute__((always_inline)) static inline struct event *write_down(struct own *own, enum kind kind, uint32_t stamp, uint32_t task,
                                                                       uint64_t address, uint64_t value, int32_t place, uint16_t size, int mark) {
@@ -42,8 +51,7 @@ __attribute__((always_inline)) static inline struct event *write_down(struct own
     event->value = value;
     event->stamp = stamp;
     event->task = task;
-    __atomic_store_n((half *)&event->place, (uint32_t)place | (uint64_t)size << 32 | (uint64_t)kind << 48 | (uint64_t)(uint8_t)mark << 56,
-                     __ATOMIC_RELEASE);
+    __atomic_store_n((half *)&event->place, last_half(place, size, kind, mark), __ATOMIC_RELEASE);
     return event;
 }
 

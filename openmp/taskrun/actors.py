@@ -100,7 +100,7 @@ class Access:
 
     def __init__(self, event: t.Event, actor: Actor, locks: frozenset[int]) -> None:
         self.address, self.value, self.stamp, _, self.place, self.size, kind, mark = event
-        self.mark = mark & t.MARKS
+        self.mark = mark & t.MARKS & ~t.OUTERMOST
         if self.size == t.LARGE:
             self.size, self.value = self.value, 0
         self.actor = actor
@@ -180,12 +180,12 @@ class Run:
 
     def _start(self, event: t.Event) -> None:
         self.actor_of(event.task).started = event.stamp
-        if event.mark == t.STACK:
+        if event.mark & t.STACK:
             self.memory.append((event.stamp, event.address, event.value))
 
     def _end(self, event: t.Event) -> None:
         actor = self.actor_of(event.task)
-        if event.mark == t.STACK:
+        if event.mark & t.STACK:
             self.memory.append((event.stamp, event.address, event.value))
         if actor is not self.root and actor.ended is None:
             if actor.started is None:

@@ -1,5 +1,6 @@
 """A trace as the recorder wrote it: one line, and then its events, thread by thread."""
 
+import itertools
 import mmap
 import os
 import re
@@ -32,22 +33,22 @@ def numbers(names: str) -> list[int]:
 (CREATE, ITEM, START, END, WAIT, WAIT_ITEM, WAIT_ITEMS, GROUP_OPEN, GROUP_CLOSE, REGION_BEGIN, REGION_END, IMPLICIT_BEGIN,
  BARRIER_BEGIN, BARRIER_END, READ, WRITE, MEMORY, LOCK, UNLOCK, NOTE, COPY, CHUNK, ENDED, LOOP_BEGIN, ITERATION, LOOP_END,
  SINGLE_BEGIN, SINGLE_END, MASKED_BEGIN, MASKED_END, ORDERED_BEGIN, ORDERED_END, POST, AWAIT, RELEASE, ACQUIRE, FULFIL,
- RESUME, LAST_BEGIN, LAST_END, LANES_BEGIN, LANE, LANES_END, CHAIN) = numbers(
+ RESUME, LAST_BEGIN, LAST_END, LANES_BEGIN, LANE, LANES_END, CHAIN, STRIDES) = numbers(
     "CREATE ITEM START END WAIT WAIT_ITEM WAIT_ITEMS GROUP_OPEN GROUP_CLOSE REGION_BEGIN REGION_END IMPLICIT_BEGIN "
     "BARRIER_BEGIN BARRIER_END READ WRITE MEMORY LOCK UNLOCK NOTE COPY CHUNK ENDED LOOP_BEGIN ITERATION LOOP_END "
     "SINGLE_BEGIN SINGLE_END MASKED_BEGIN MASKED_END ORDERED_BEGIN ORDERED_END POST AWAIT RELEASE ACQUIRE FULFIL RESUME "
-    "LAST_BEGIN LAST_END LANES_BEGIN LANE LANES_END CHAIN")
+    "LAST_BEGIN LAST_END LANES_BEGIN LANE LANES_END CHAIN STRIDES")
 NOTES = ("", "reductions", "detach clauses", "priority clauses", "cancellations", "tasks too deep to follow",
          "calls that ask for the thread's number", "teams of one thread by the program", "runs without OMPT",
          "pieces without room", "processes that were forked", "words that regions have one thread from there on",
          "words that regions have more threads from there on", "leagues of one team by the program")
-ATOMIC, FREED, LIBRARY, FRAME, OUTERMOST, STACK, ROW_SHIFT, LARGE, SET = numbers(
-    "ATOMIC FREED LIBRARY FRAME OUTERMOST STACK ROW_SHIFT LARGE SET")
+ATOMIC, FREED, LIBRARY, FRAME, OUTERMOST, STACK, COUNTED, ROW_SHIFT, LARGE, SET, LONGEST_NUMBER, LANE_STEPS = numbers(
+    "ATOMIC FREED LIBRARY FRAME OUTERMOST STACK COUNTED ROW_SHIFT LARGE SET LONGEST_NUMBER LANE_STEPS")
 MARKS = (1 << ROW_SHIFT) - 1
 WRITES = 32      # of a step: the program writes there, be the step a load or a store
 UNDEFERRED, FINAL = 0x8000000, 0x20000000
 FORMAT = struct.Struct("<QqIIiHBB")
-HEADER = b"taskback trace 3 "
+HEADER = b"taskback trace 4 "
 PAGE = 4096     # bytes of text in front of the events
 PIECE = 2048    # events
 FAMILIES, CONTROL, END_MARK, SHIFTS = 128, 2, 8, (7, 9, 11, 13)    # of packed pieces (packing.h)
@@ -70,7 +71,9 @@ def takes_number(event: Event) -> bool:
     """Whether the event raises the one counter (event.h); the others have the number that it had."""
     if event.kind == WRITE:
         return event.mark & (FREED | FRAME) == FREED
-    return event.kind not in (READ, CHAIN, MEMORY, ITEM, WAIT_ITEM, ITERATION, LANE, COPY, NOTE)
+    if event.kind == START:
+        return event.mark & COUNTED != 0
+    return event.kind not in (WAIT, READ, CHAIN, MEMORY, ITEM, WAIT_ITEM, ITERATION, LANE, STRIDES, COPY, NOTE)
 
 
 class BadTrace(Exception):
@@ -141,6 +144,46 @@ def unpacked(head: Event, data: bytes | memoryview) -> Iterator[Event]:
         yield event
 
 
+def farther(event: Event, distance: int) -> Event:
+    """The step of another lane, of whose number nothing is known."""
+    shift, address = event.size.bit_length() - 1, (event.address + distance) % 2**64
+    return event._replace(address=address >> shift + 6 << shift + 6, value=1 << (address >> shift & 63), size=SET,
+                          mark=event.mark | 1 + shift << ROW_SHIFT)
+
+
+def lanes(lane: Event, events: list[Event]) -> Iterator[Event]:
+    """The steps of a lane, and of those that follow it, behind which stand these events."""
+    count = next(number for number, event in enumerate(events) if event.kind not in (READ, WRITE))
+    told = itertools.takewhile(lambda event: event.kind == STRIDES, events[count:])
+    strides = struct.unpack(f"<{4 * -(-count // 4)}i", b"".join(struct.pack("<Qq", *event[:2]) for event in told))
+    for number in range(lane.size + 1):
+        yield lane._replace(size=0)
+        for event, stride in zip(events[:count], strides):
+            yield (farther(event, number * stride) if number else event)._replace(stamp=lane.stamp)
+
+
+def unfolded(events: list[Event]) -> Iterator[Event]:
+    """These events, of which some stand for several (event.h)."""
+    left = iter(range(len(events)))
+    for at in left:
+        event = events[at]
+        size, before = event.size, event.stamp - 1
+        if event.kind == LANE and size:
+            yield from lanes(event, events[at + 1:at + 1 + LANE_STEPS + LANE_STEPS // 4])
+            while events[at + 1].kind in (READ, WRITE):
+                at = next(left)
+        elif event.kind == CREATE and size:
+            yield event._replace(kind=MEMORY, value=size, place=0, size=0, stamp=before)
+            yield event._replace(address=event.value & 0xffffffff, value=event.value >> 32, size=0)
+        elif event.kind == END and size:
+            is_long = size > LONGEST_NUMBER
+            yield event._replace(kind=WRITE, mark=FREED | FRAME | OUTERMOST, address=event.address + event.value - size,
+                                 value=size if is_long else 0, size=LARGE if is_long else size, stamp=before)
+            yield event._replace(place=0, size=0)
+        elif event.kind != STRIDES:
+            yield event
+
+
 def in_order(data: bytes) -> list[Event]:
     """The events of each thread in its order: its first piece, which it fills again and again, has its newest ones."""
     threads: dict[int | None, list[list[Event]]] = {}
@@ -157,7 +200,7 @@ def in_order(data: bytes) -> list[Event]:
             pieces.append(pieces.pop(0))
             if len(pieces) > 1 and len(pieces[-1]) == PIECE - 1 and pieces[-1] == pieces[-2]:
                 pieces.pop()
-    return [event for pieces in threads.values() for piece in pieces for event in piece]
+    return [event for pieces in threads.values() for piece in pieces for event in unfolded(piece)]
 
 
 def count_events(path: str) -> int:
@@ -168,7 +211,7 @@ def count_events(path: str) -> int:
             if size <= PAGE:
                 return 0
             with mmap.mmap(file.fileno(), size, access=mmap.ACCESS_READ) as data, memoryview(data) as bytes_of:
-                return sum(PIECE - 1 if head.kind == CHUNK and head.value else (end - begin) // FORMAT.size
-                           for head, begin, end in pieces_of(bytes_of))
+                return sum((PIECE - 1 if head.value else (end - begin) // FORMAT.size) + head.place if head.kind == CHUNK
+                           else (end - begin) // FORMAT.size for head, begin, end in pieces_of(bytes_of))
     except OSError as fault:
         raise BadTrace(f"can't read {path}: {fault.strerror}") from fault
