@@ -152,25 +152,47 @@ void Run::part_ways(const State &s, std::size_t at) {
     actors[s.actor].parted = std::min(actors[s.actor].parted, at);
 }
 
+// What a task starts with may be memory that is free, and a part of its thread's stack.
+void Run::take_start(std::size_t at, const event &e) {
+    start(e, trace.thread(at));
+    segment_of[at] = state_of(e).segment;
+    if (e.mark & STACK) {
+        forget_released(e);
+        take_stack(state_of(e), at, e);
+    }
+}
+
+void Run::take_end(std::size_t at, const event &e) {
+    segment_of[at] = state_of(e).segment;
+    if (e.mark & STACK)
+        give_back_stack(at, e.address + e.value);
+    end(e);
+}
+
+// What is new there: a block, the part of its thread's stack that a task has from here on, or what is free of a stack again.
+void Run::take_memory(std::size_t at, const event &e) {
+    segment_of[at] = state_of(e).segment;
+    forget_released(e);
+    if (e.mark & STACK)
+        take_stack(state_of(e), at, e);
+    else if (lives_.is_stack(trace.thread(at), e.address))
+        give_back_stack(at, e.address + e.value);
+}
+
+void Run::take_lane(std::size_t at, const event &e) {
+    segment_of[at] = state_of(e).segment;
+    forget_released(e);
+    begin_lane(e);
+}
+
 void Run::take_sync(std::size_t at, const event &e) {
     switch (e.kind) {
     case CREATE: return create(e);
     case ITEM:
         actors[state_of(e).actor].items.push_back(Item{e.address, e.value, e.mark});
         return;
-    case START:
-        start(e, trace.thread(at));
-        segment_of[at] = state_of(e).segment;
-        if (e.mark & STACK) {
-            forget_released(e);
-            take_stack(state_of(e), at, e);
-        }
-        return;
-    case END:
-        segment_of[at] = state_of(e).segment;
-        if (e.mark & STACK)
-            give_back_stack(at, e.address + e.value);
-        return end(e);
+    case START: return take_start(at, e);
+    case END: return take_end(at, e);
     case RESUME: actors[state_of(e).actor].thread = trace.thread(at); return;
     case FULFIL: return fulfil(e);
     case WAIT: return wait(e);
@@ -191,18 +213,8 @@ void Run::take_sync(std::size_t at, const event &e) {
     case ACQUIRE: return acquire(e);
     case NOTE: return note(e);
     case COPY: return copy(at, e);
-    case MEMORY:
-        segment_of[at] = state_of(e).segment;
-        forget_released(e);
-        if (e.mark & STACK)
-            take_stack(state_of(e), at, e);
-        else if (lives_.is_stack(trace.thread(at), e.address))
-            give_back_stack(at, e.address + e.value);
-        return;
-    case LANE:
-        segment_of[at] = state_of(e).segment;
-        forget_released(e);
-        return begin_lane(e);
+    case MEMORY: return take_memory(at, e);
+    case LANE: return take_lane(at, e);
     case ENDED: return;
     default: return take_share(e);
     }

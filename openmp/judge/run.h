@@ -232,6 +232,10 @@ private:
     State &state_of(const event &e) { return state(e.task); }
     void take(std::size_t at);
     void take_sync(std::size_t at, const event &e);
+    void take_start(std::size_t at, const event &e);
+    void take_end(std::size_t at, const event &e);
+    void take_memory(std::size_t at, const event &e);
+    void take_lane(std::size_t at, const event &e);
     void take_share(const event &e);
     void forget_released(const event &e);
 
