@@ -13,7 +13,7 @@ use Rattle.tb_model.specs.Names.{Name, same_name, is_child, is_elder, is_within,
 use Rattle.tb_model.specs.Facts.{History, IsSpawned, holds, is_end, is_member, is_of, items_of, own, is_print, is_spawn_of, is_store_to, touches}
 use Rattle.tb_model.specs.Needs.{conflicts, needs, needs_end_of, waits_for}
 use Rattle.tb_model.specs.Needers.{first_needer}
-use Rattle.tb_model.proofs.TestLemmas.{same_true, same_refl}
+use Rattle.tb_model.proofs.TestLemmas.{other_way, same_true, same_refl}
 use Rattle.tb_steps.specs.Entries.{Entry}
 use Rattle.tb_core.specs.Lending.{IsNoneBetween}
 use Rattle.tb_core.specs.Needing.{NoStartWaits, NoneNeeds, NoneOf, OnlyAbove, is_above, may_wait, may_wait_for, meets}
@@ -23,13 +23,6 @@ use Rattle.tb_steps.proofs.FirstLemmas.{front_legal, there, none_next}
 use Rattle.tb_steps.proofs.NeedsLemmas.{held_within, member_within}
 
 -- ---- what each part of the test says
-
-other_way : (t u : Name) → same_name t u ≡ false → same_name u t ≡ false
-other_way t u h = by (same_name u t) refl
-  where
-    by : (b : Bool) → same_name u t ≡ b → b ≡ false
-    by false f = refl
-    by true e = absurd (true≢false (sym (same_refl t) ∙ subst (λ w. same_name t w ≡ false) (same_true u t e) h))
 
 store_touches : (d : ℕ) (b : Action) → is_store_to d b ≡ true → touches d b ≡ true
 store_touches d (Store c x) h = h

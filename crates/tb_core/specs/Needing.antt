@@ -28,7 +28,7 @@ may_wait is_met _ = false
 abbrev pub may_wait_for : Bool → Action → Name → Name → Bool
 may_wait_for is_met a t u = may_wait is_met a || (is_child t u || same_name t u)
 
--- no task of an entry behind the place `at` would wait, if it started there, for the end of the task of the one at that place
+-- no task of a stored step after the one at index `at` would wait, if it started there, for the end of that one's task
 abbrev pub NoStartWaits : List Entry → ℕ → Type 0
 NoStartWaits entries at =
     (k : ℕ) (v u : Entry) → at < k → k < length entries → v ≡ get_or entries k v → u ≡ get_or entries at u → IsFalse (waits_for (history_of (take k entries)) v.event.task Start u.event.task)
@@ -39,7 +39,7 @@ abbrev pub NoneNeeds : List Entry → ℕ → ℕ → ℕ → Type 0
 NoneNeeds entries at from to =
     (k : ℕ) (v u : Entry) → from ≤ k → k < to → v ≡ get_or entries k v → u ≡ get_or entries at u → IsFalse (needs (history_of (take k entries)) v.event u.event)
 
--- no entry of the task from the one place on, in front of the other, directly needs the one at the place `at`
+-- no stored step of the task from the one index on, before the other, directly needs the one at index `at`
 abbrev pub NoneOf : Name → List Entry → ℕ → ℕ → ℕ → Type 0
 NoneOf t entries at from to =
     (k : ℕ) (v u : Entry) → from ≤ k → k < to → v ≡ get_or entries k v → u ≡ get_or entries at u → IsTrue (is_of t v.event) → IsFalse (needs (history_of (take k entries)) v.event u.event)
@@ -49,7 +49,7 @@ abbrev pub is_above : Option Name → Name → Bool
 is_above None s = false
 is_above (Some t) s = is_within s t
 
--- an entry from the one place on, in front of the other, that directly needs the one at the place `at` is of this task, where there is one, or of one above it
+-- a stored step from the one index on, before the other, that directly needs the one at index `at` is of this task, where there is one, or of one above it
 abbrev pub OnlyAbove : Option Name → List Entry → ℕ → ℕ → ℕ → Type 0
 OnlyAbove t entries at from to =
     (k : ℕ) (v u : Entry) → from ≤ k → k < to → v ≡ get_or entries k v → u ≡ get_or entries at u → IsTrue (needs (history_of (take k entries)) v.event u.event) → IsTrue (is_above t v.event.task)

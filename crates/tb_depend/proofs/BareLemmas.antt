@@ -4,12 +4,12 @@ use Rattle.std.proofs.lemmas.Bool.{false≢true}
 use Rattle.std.proofs.lemmas.List.{length-replicate, take-replicate}
 use Rattle.tb_model.specs.declared.item.Item.{Item}
 use Rattle.tb_model.specs.Items.{is_before, some_meet}
+use Rattle.tb_model.proofs.SiblingsLemmas.{meets_none}
 use Rattle.tb_depend.specs.Layout.{AreEnds, rows_from, bare_table}
 use Rattle.tb_depend.specs.Table.{FreesRoom}
 use Rattle.tb_depend.specs.Nearness.{AreOver, AreOverFor}
 use Rattle.tb_depend.specs.Numbers.{numbers_where}
 use Rattle.tb_depend.specs.Relations.{items_at, depends, preds_of}
-use Rattle.tb_depend.proofs.RelationsLemmas.{meets_none}
 
 -- ---- their lists
 

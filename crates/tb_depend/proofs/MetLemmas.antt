@@ -1,16 +1,12 @@
 -- Where none of the others has to do with a child by its items.
-use Rattle.std.proofs.Common.{◌≡◌, ◌<◌, ◌≤◌, ◌+◌, ℕ, zero, suc, List, [], ◌∷◌, Bool, true, false, ◌&&◌, ◌||◌, nat_lt, length, refl, ap, ap₂, ◌∙◌, subst, arith, ltb}
+use Rattle.std.proofs.Common.{◌≡◌, ◌<◌, ◌≤◌, ◌+◌, ℕ, zero, suc, List, [], Bool, true, false, ◌&&◌, ◌||◌, nat_lt, length, refl, ap, ap₂, ◌∙◌, subst, arith, ltb}
 use Rattle.std.proofs.lemmas.Bool.{ltb-true, ltb-false}
 use Rattle.tb_model.specs.declared.item.Item.{Item}
 use Rattle.tb_model.specs.Items.{Relation, is_before, is_apart, some_meet}
+use Rattle.tb_model.proofs.SiblingsLemmas.{meets_none}
 use Rattle.tb_depend.specs.Relations.{items_at, depends, excludes}
 use Rattle.tb_depend.specs.Met.{IsFreeOf, NoneLater, NoneEarlier}
 use Rattle.tb_depend.proofs.RelationsLemmas.{items_past}
-
--- nothing meets no items
-none_meets : (test : Relation → Bool) (new : List Item) → some_meet test new [] ≡ false
-none_meets test [] = refl
-none_meets test (i ∷ new) = none_meets test new
 
 only_if : (a b : Bool) → (a ≡ true → b ≡ false) → (a && b) ≡ false
 only_if true b h = h refl
@@ -29,7 +25,7 @@ pub bare_not_met : (siblings : List (List Item)) (n : ℕ) → items_at siblings
 bare_not_met siblings n none = not_met siblings n (λ m low. (no_old is_before m, no_old is_apart m)) (λ m low. ap (λ (its : List Item). some_meet is_apart its (items_at siblings m)) none)
   where
     no_old : (test : Relation → Bool) (m : ℕ) → some_meet test (items_at siblings m) (items_at siblings n) ≡ false
-    no_old test m = ap (λ (its : List Item). some_meet test (items_at siblings m) its) none ∙ none_meets test (items_at siblings m)
+    no_old test m = ap (λ (its : List Item). some_meet test (items_at siblings m) its) none ∙ meets_none test (items_at siblings m)
 
 -- ---- one child more
 
@@ -57,7 +53,7 @@ all_behind siblings n k over rest m low = by (ltb k m) refl
 
 -- none is in front of the first
 pub first_front : (siblings : List (List Item)) (n m : ℕ) → m < 1 → some_meet is_apart (items_at siblings n) (items_at siblings m) ≡ false
-first_front siblings n zero low = none_meets is_apart (items_at siblings n)
+first_front siblings n zero low = meets_none is_apart (items_at siblings n)
 first_front siblings n (suc m) low = absurd (omega (arith, low))
 
 pub more_front : (siblings : List (List Item)) (n k : ℕ) → some_meet is_apart (items_at siblings n) (items_at siblings k) ≡ false

@@ -10,6 +10,7 @@ use Rattle.tb_model.specs.declared.action.Action.TheVariants.{Spawn}
 use Rattle.tb_model.specs.Items.{Relation, is_before, is_apart, some_meet, has_no_items}
 use Rattle.tb_model.specs.Legal.{spawn_count}
 use Rattle.tb_model.specs.Siblings.{nth_items, child_before, child_apart, child_covered}
+use Rattle.tb_model.proofs.SiblingsLemmas.{meets_none}
 use Rattle.tb_depend.specs.Relations.{items_at, depends, excludes, is_covered, preds_of, apart_of, covered_by, spawned_items}
 use Rattle.tb_depend.specs.Numbers.{numbers_where}
 use Rattle.tb_depend.proofs.NumbersLemmas.{where_past, listed}
@@ -100,10 +101,6 @@ pub covered_spawned : (acts : List Action) (items : List Item) (n : ℕ) → is_
 covered_spawned acts items n = ap (λ b. has_no_items items || b) (ap (some_meet is_before items) (items_spawned acts n))
 
 -- ---- who is no child is related to none
-
-pub meets_none : (test : Relation → Bool) (new : List Item) → some_meet test new [] ≡ false
-meets_none test [] = refl
-meets_none test (i ∷ new) = meets_none test new
 
 -- whose items meet some is a child
 is_child_number : (siblings : List (List Item)) (m : ℕ) → (items_at siblings m ≡ [] → false ≡ true) → (1 ≤ m) × (m ≤ length siblings)

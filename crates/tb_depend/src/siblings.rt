@@ -1,7 +1,6 @@
 //! The children of one task.
 
 ghost use Rattle.std.specs.Prelude.{◌≡◌, ◌<◌, ◌≤◌, ◌+◌, ◌-◌, ℕ, [], ◌∷◌, ◌++◌, IsOk, OnOk, OnErr, IfOk, IsFalse, IsTrue, ◌↔◌, length, take, min, vec_capacity};
-ghost use Rattle.tb_depend.specs.Numbers.{numbers_where};
 ghost use Rattle.tb_depend.specs.Relations.{items_at, depends, excludes, is_covered, preds_of, apart_of, covered_by};
 ghost use Rattle.tb_depend.specs.Met.{NoneLater, NoneEarlier};
 ghost use Rattle.tb_depend.specs.Table.{HasRoomFor, KeepsRoom, FreesRoom};

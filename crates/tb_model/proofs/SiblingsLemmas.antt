@@ -6,7 +6,7 @@ use Rattle.tb_model.specs.declared.item.Item.{Item}
 use Rattle.tb_model.specs.declared.action.Action.{Action}
 use Rattle.tb_model.specs.declared.action.Action.TheVariants.{Spawn}
 use Rattle.tb_model.specs.Names.{Name, same_name, is_elder}
-use Rattle.tb_model.specs.Items.{some_meet, is_before, is_apart, has_no_items}
+use Rattle.tb_model.specs.Items.{Relation, some_meet, is_before, is_apart, has_no_items}
 use Rattle.tb_model.specs.Facts.{History, own, is_of, is_spawn_of, prepend_if, items_of, items_for, before, apart, spawns, covers}
 use Rattle.tb_model.specs.Legal.{Cells, Legal, Continues, spawn_count}
 use Rattle.tb_model.specs.Siblings.{nth_items, child_before, child_apart, child_covered}
@@ -20,6 +20,11 @@ no_items t [] h = refl
 no_items t (v ∷ H) h =
     let o = or_parts (spawns t v) (list_any (spawns t) H) h in
     ap (λ i. i ++ items_of t H) (items_none t v.action o.0) ∙ no_items t H o.1
+
+-- nothing meets no items
+pub meets_none : (test : Relation → Bool) (new : List Item) → some_meet test new [] ≡ false
+meets_none test [] = refl
+meets_none test (i ∷ new) = meets_none test new
 
 and_true : (b : Bool) → (b && true) ≡ b
 and_true true = refl

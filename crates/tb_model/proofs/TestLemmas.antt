@@ -1,8 +1,7 @@
 -- Tests of lists and names.
-use Rattle.std.proofs.Common.{◌≡◌, ℕ, List, [], ◌∷◌, Bool, true, false, ⊎_elim, refl, ◌==◌}
+use Rattle.std.proofs.Common.{◌≡◌, ℕ, List, [], ◌∷◌, Bool, true, false, ⊎_elim, refl, sym, ap, ap₂, ◌∙◌, ◌==◌}
 use Rattle.std.specs.List.{list_any}
 use Rattle.std.proofs.lemmas.Bool.{or_cases, or_left, or_right, false_from_ne_true, both_ways, and_parts, and_from, eqb-true, eq-eqb, false≢true}
-use Rattle.std.proofs.Common.{ap₂}
 use Rattle.tb_model.specs.Names.{Name, same_name}
 
 -- a weaker test passes too
@@ -30,3 +29,8 @@ same_true (m ∷ t) (n ∷ u) h =
 pub same_refl : (t : Name) → same_name t t ≡ true
 same_refl [] = refl
 same_refl (n ∷ t) = and_from (n == n) (same_name t t) (eq-eqb n n refl) (same_refl t)
+
+-- two names differ both ways
+pub other_way : (t u : Name) → same_name t u ≡ false → same_name u t ≡ false
+other_way t u e =
+    false_from_ne_true (same_name u t) (λ q. false≢true (sym e ∙ ap (same_name t) (same_true u t q) ∙ same_refl t))

@@ -9,13 +9,14 @@ use Rattle.tb_model.specs.declared.item.Item.{Item}
 use Rattle.tb_model.specs.declared.action.Action.{Action}
 use Rattle.tb_model.specs.declared.action.Action.TheVariants.{Start, Let, Load, Store, Print, Spawn, Wait, Open, Close, Test, End, Fault}
 use Rattle.tb_model.specs.declared.event.Event.{Event}
-use Rattle.tb_model.specs.Items.{Relation, some_meet, is_before, is_apart}
+use Rattle.tb_model.specs.Items.{some_meet, is_before, is_apart}
 use Rattle.tb_model.specs.Names.{Name, same_name, child, is_child, is_elder}
 use Rattle.tb_model.specs.NameLaws.{same_name_equivalence}
 use Rattle.tb_model.specs.Facts.{History, own, last, before, apart, covers, groups, is_member, holds, is_spawned, is_spawn_of, starts, spawns, items_for, items_of}
 use Rattle.tb_model.specs.State.{with_child, is_unended}
 use Rattle.tb_model.specs.Legal.{Cells, first_number, spawn_count, IsRunning, IsPlace, Continues, MayStart, IsTimely, MayFollow, Legal}
 use Rattle.tb_model.proofs.TestLemmas.{same_true, same_refl}
+use Rattle.tb_model.proofs.SiblingsLemmas.{meets_none}
 use Rattle.tb_plain.specs.Decided.{is_empty, is_running, is_place, are_places, is_behind, continues, everyone, has_ended, is_past, is_aside, may_start, is_timely, is_resumed, may_follow, is_legal}
 
 -- ---- tests
@@ -126,16 +127,12 @@ no_items : (u : Name) (H : History) → is_listed u (everyone H) ≡ false → i
 no_items u [] h = refl
 no_items u (v ∷ H) h = no_items_by u v.action (everyone H) (items_of u H) h (no_items u H)
 
-meet_none : (test : Relation → Bool) (new : List Item) → some_meet test new [] ≡ false
-meet_none test [] = refl
-meet_none test (i ∷ new) = meet_none test new
-
 and_no : (a b : Bool) → b ≡ false → (a && b) ≡ false
 and_no true b h = h
 and_no false b h = refl
 
 before_listed : (H : History) (u t : Name) → before H u t ≡ true → is_listed u (everyone H) ≡ true
-before_listed H u t h = true_unless _ (λ e. false≢true (sym (and_no (is_elder u t) _ (ap (some_meet is_before (items_of t H)) (no_items u H e) ∙ meet_none is_before (items_of t H))) ∙ h))
+before_listed H u t h = true_unless _ (λ e. false≢true (sym (and_no (is_elder u t) _ (ap (some_meet is_before (items_of t H)) (no_items u H e) ∙ meets_none is_before (items_of t H))) ∙ h))
 
 apart_listed : (H : History) (u t : Name) → apart H u t ≡ true → is_listed u (everyone H) ≡ true
 apart_listed H u t h = true_unless _ (λ e. false≢true (sym (none e) ∙ h))
@@ -148,7 +145,7 @@ apart_listed H u t h = true_unless _ (λ e. false≢true (sym (none e) ∙ h))
     none e =
         let gone = no_items u H e in
         none_of _ _
-        (and_no (is_elder u t) _ (ap (some_meet is_apart (items_of t H)) gone ∙ meet_none is_apart (items_of t H)))
+        (and_no (is_elder u t) _ (ap (some_meet is_apart (items_of t H)) gone ∙ meets_none is_apart (items_of t H)))
         (and_no (is_elder t u) _ (ap (λ items. some_meet is_apart items (items_of t H)) gone))
 
 -- ---- what the task's own actions allow

@@ -12,7 +12,7 @@ use Rattle.tb_model.specs.Facts.{History, own, is_of, is_end, ends, is_spawn_of,
 use Rattle.tb_model.specs.Legal.{Cells, Legal, Continues, IsRunning}
 use Rattle.tb_model.specs.State.{is_unended}
 use Rattle.tb_model.specs.Alike.{Alike}
-use Rattle.tb_model.proofs.TestLemmas.{same_true, same_refl}
+use Rattle.tb_model.proofs.TestLemmas.{other_way, same_true, same_refl}
 use Rattle.tb_model.proofs.FactsLemmas.{acted_spawned, not_again, not_running, not_started, ends_own, spawned_by}
 use Rattle.tb_model.proofs.NeedsLemmas.{may_spawned}
 use Rattle.tb_model.proofs.AlikeLemmas.{spawned_alike}
@@ -28,9 +28,6 @@ Table = List (Name × Bool)
 -- where o is the mark of u in front of it
 abbrev marked_if : Bool → Bool → Bool → Option Bool → Option Bool
 marked_if is_over mine mark o = cond is_over (cond mine (option_map (λ _. mark) o) o) o
-
-other_way : (t u : Name) → same_name t u ≡ false → same_name u t ≡ false
-other_way t u d = false_from_ne_true (same_name u t) (λ e. both_ways (same_name t u) d (subst (λ w. same_name t w ≡ true) (sym (same_true u t e)) (same_refl t)))
 
 marked_each : (ts : Table) (name : Name) (mark : Bool) (u : Name) → mark_of (with_mark ts name mark) u ≡ cond (same_name name u) (option_map (λ _. mark) (mark_of ts u)) (mark_of ts u)
 marked_each ts name mark u = at (same_name name u) refl

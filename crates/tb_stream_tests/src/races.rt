@@ -177,7 +177,7 @@ fn tells_exclusion(alloc: Global, races: &mut Races) -> bool {
 }
 
 #[test]
-fn stores_of_siblings_that_exclude_each_other_are_kept_apart(rt: HostRuntime) {
+fn both_stores_of_siblings_that_exclude_each_other_may_race(rt: HostRuntime) {
     let alloc = rt.alloc();
     let Ok(mut races) = Races::new(alloc) else {
         assert!(rt; false);

@@ -1,6 +1,5 @@
 -- Where the table of siblings says that none may depend on a task or exclude it, no start waits for its end.
 use Rattle.std.proofs.Common.{◌≡◌, ℕ, List, [], ◌∷◌, Bool, true, false, ◌&&◌, ◌||◌, drop, nat_lt, refl, sym, ap, ap₂, ◌∙◌, subst}
-use Rattle.std.proofs.lemmas.Bool.{true≢false}
 use Rattle.tb_model.specs.declared.item.Item.{Item}
 use Rattle.tb_model.specs.declared.action.Action.TheVariants.{Start}
 use Rattle.tb_model.specs.Items.{is_before, is_apart, some_meet}
@@ -8,23 +7,15 @@ use Rattle.tb_model.specs.Names.{Name, same_name, is_elder}
 use Rattle.tb_model.specs.Facts.{History, own, items_of}
 use Rattle.tb_model.specs.Needs.{waits_for}
 use Rattle.tb_model.specs.Legal.{Cells, Legal}
-use Rattle.tb_model.proofs.SiblingsLemmas.{before_at, apart_at}
-use Rattle.tb_model.proofs.TestLemmas.{same_true, same_refl}
+use Rattle.tb_model.proofs.SiblingsLemmas.{before_at, apart_at, meets_none}
+use Rattle.tb_model.proofs.TestLemmas.{other_way, same_true}
 use Rattle.tb_depend.specs.Relations.{depends, excludes, spawned_items}
 use Rattle.tb_depend.proofs.RelationsLemmas.{depends_spawned, excludes_spawned}
 use Rattle.tb_undo.specs.Readings.{IsNthOf}
-use Rattle.tb_undo.proofs.ObstacleLemmas.{none_meet}
 
 not_kin : (a b x : Bool) → b ≡ false → ((a && b) && x) ≡ false
 not_kin true b x h = ap (λ c. c && x) h
 not_kin false b x h = refl
-
-other_way : (p q : Name) → same_name p q ≡ false → same_name q p ≡ false
-other_way p q h = by (same_name q p) refl
-  where
-    by : (b : Bool) → same_name q p ≡ b → b ≡ false
-    by false e = refl
-    by true e = absurd (true≢false (sym (same_refl p) ∙ subst (λ w. same_name p w ≡ false) (same_true q p e) h))
 
 module _ (cells : Cells) (H : History) (legal : Legal cells H) where
   -- children of two tasks
@@ -58,8 +49,8 @@ module _ (cells : Cells) (H : History) (legal : Legal cells H) where
 -- for a task without items none does
 pub none_waits : (H : History) (t u : Name) → items_of u H ≡ [] → waits_for H t Start u ≡ false
 none_waits H t u none =
-    ap₂ (λ (a b : Bool). a || b) (nothing (is_elder u t) _ (ap (λ its. some_meet is_before (items_of t H) its) none ∙ none_meet is_before (items_of t H)))
-    (ap₂ (λ (a b : Bool). a || b) (nothing (is_elder u t) _ (ap (λ its. some_meet is_apart (items_of t H) its) none ∙ none_meet is_apart (items_of t H)))
+    ap₂ (λ (a b : Bool). a || b) (nothing (is_elder u t) _ (ap (λ its. some_meet is_before (items_of t H) its) none ∙ meets_none is_before (items_of t H)))
+    (ap₂ (λ (a b : Bool). a || b) (nothing (is_elder u t) _ (ap (λ its. some_meet is_apart (items_of t H) its) none ∙ meets_none is_apart (items_of t H)))
     (nothing (is_elder t u) _ (ap (λ its. some_meet is_apart its (items_of t H)) none)))
   where
     nothing : (a x : Bool) → x ≡ false → (a && x) ≡ false

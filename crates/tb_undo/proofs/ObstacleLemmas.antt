@@ -7,7 +7,7 @@ use Rattle.tb_model.specs.declared.action.Action.{Action}
 use Rattle.tb_model.specs.declared.action.Action.TheVariants.{End, Fault}
 use Rattle.tb_model.specs.declared.event.Event.{Event}
 use Rattle.tb_model.specs.Names.{Name, child, same_name, is_child, is_elder}
-use Rattle.tb_model.specs.Items.{Relation, some_meet, is_before, has_no_items}
+use Rattle.tb_model.specs.Items.{some_meet, is_before, has_no_items}
 use Rattle.tb_model.specs.Facts.{History, own, is_of, is_start, is_spawned, IsSpawned, items_of, before, apart, covers, spawns, starts, ends, HasStarted, HasEnded}
 use Rattle.tb_model.specs.State.{is_unended, is_unended_covered, is_unended_member, status_of, has_begun}
 use Rattle.tb_model.specs.Legal.{Cells, Legal}
@@ -16,7 +16,7 @@ use Rattle.tb_model.specs.Hindrances.{IsLeast, is_waited_for, is_excluding}
 use Rattle.tb_model.proofs.TestLemmas.{same_true}
 use Rattle.tb_model.proofs.FactsLemmas.{not_started}
 use Rattle.tb_model.proofs.StateLemmas.{begun_started, exclusion}
-use Rattle.tb_model.proofs.SiblingsLemmas.{before_at, covers_at, items_at, no_items}
+use Rattle.tb_model.proofs.SiblingsLemmas.{before_at, covers_at, items_at, meets_none, no_items}
 use Rattle.tb_depend.specs.Relations as siblings
 use Rattle.tb_depend.specs.Relations.{depends, is_covered, spawned_items}
 use Rattle.tb_depend.proofs.RelationsLemmas.{depends_spawned, covered_spawned, items_spawned}
@@ -39,11 +39,6 @@ ended_not H u h = not-true (list_any (ends u) H) (and_parts (is_spawned H u) (no
 
 pub unended_from : (H : History) (u : Name) → IsSpawned H u → list_any (ends u) H ≡ false → is_unended H u ≡ true
 unended_from H u s e = and_from (is_spawned H u) (not (list_any (ends u) H)) s (not_from_false (list_any (ends u) H) e)
-
--- who has no items meets nobody
-pub none_meet : (test : Relation → Bool) (items : List Item) → some_meet test items [] ≡ false
-none_meet test [] = refl
-none_meet test (i ∷ items) = none_meet test items
 
 -- the child of t that u is
 abbrev ChildOf : Name → Name → Type 0
@@ -107,7 +102,7 @@ module _ (cells : Cells) (H : History) (tasks : Waits) (t : Name) (legal : Legal
         at true e = refl
         at false e =
             let met = (and_parts (is_elder (m ∷ t) (n ∷ t)) (some_meet is_before (items_of (n ∷ t) H) (items_of (m ∷ t) H)) h).1 in
-            sym (none_meet is_before (items_of (n ∷ t) H)) ∙ ap (some_meet is_before (items_of (n ∷ t) H)) (sym (no_items (m ∷ t) H e)) ∙ met
+            sym (meets_none is_before (items_of (n ∷ t) H)) ∙ ap (some_meet is_before (items_of (n ∷ t) H)) (sym (no_items (m ∷ t) H e)) ∙ met
 
     -- and so was who comes after another
     pub before_generated : (m : ℕ) → before H (m ∷ t) (n ∷ t) ≡ true → IsSpawned H (n ∷ t)

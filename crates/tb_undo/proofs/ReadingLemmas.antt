@@ -13,7 +13,7 @@ use Rattle.tb_model.specs.Legal.{Cells, Legal, spawn_count}
 use Rattle.tb_model.specs.Lines.{Departure, events_of}
 use Rattle.tb_model.proofs.FactsLemmas.{acted_spawned, not_started, ends_own, spawn_names}
 use Rattle.tb_model.proofs.GroupsLemmas.{groups_since}
-use Rattle.tb_model.proofs.SiblingsLemmas.{before_at, apart_at, items_at, no_items}
+use Rattle.tb_model.proofs.SiblingsLemmas.{before_at, apart_at, items_at, meets_none, no_items}
 use Rattle.tb_depend.specs.Relations as siblings
 use Rattle.tb_depend.specs.Relations.{depends, excludes, spawned_items}
 use Rattle.tb_depend.proofs.RelationsLemmas.{depends_spawned, excludes_spawned, items_spawned}
@@ -31,7 +31,7 @@ use Rattle.tb_undo.specs.Tasks.{Task, row, seen_row}
 use Rattle.tb_undo.specs.State.{Seen, IsTaskState, known_task, task_of}
 use Rattle.tb_undo.specs.Obstacles.{sibling}
 use Rattle.tb_undo.specs.Readings.{IsNthOf, IsNextChild, IsUnendedBehind}
-use Rattle.tb_undo.proofs.ObstacleLemmas.{none_meet, least_name_by}
+use Rattle.tb_undo.proofs.ObstacleLemmas.{least_name_by}
 use Rattle.tb_undo.proofs.StartLemmas.{kept, is_known, parent_spawned, named, headed, unheaded}
 
 -- ---- one task
@@ -142,7 +142,7 @@ module _ (cells : Cells) (H : History) (t : Name) (legal : Legal cells H) where
     none_apart =
         let older = ap (λ items. is_elder (sibling t m) t && some_meet is_apart items (items_of (sibling t m) H)) none ∙ never (is_elder (sibling t m) t) in
         let younger = ap (λ items. is_elder t (sibling t m) && some_meet is_apart (items_of (sibling t m) H) items) none
-        ∙ ap (λ b. is_elder t (sibling t m) && b) (none_meet is_apart (items_of (sibling t m) H)) ∙ never (is_elder t (sibling t m)) in
+        ∙ ap (λ b. is_elder t (sibling t m) && b) (meets_none is_apart (items_of (sibling t m) H)) ∙ never (is_elder t (sibling t m)) in
         ap₂ (λ b c. b || c) older younger
 
 -- ---- where a task's parent is looked up

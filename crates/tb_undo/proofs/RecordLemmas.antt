@@ -4,7 +4,7 @@ use Rattle.std.proofs.lemmas.Bool.{false≢true, or_parts}
 use Rattle.tb_model.specs.declared.action.Action.{Action}
 use Rattle.tb_model.specs.declared.action.Action.TheVariants.{Start, Let, Load, Store, Print, Spawn, Wait, Open, Close, Test, End, Fault}
 use Rattle.tb_model.specs.declared.event.Event.{Event}
-use Rattle.tb_model.specs.Names.{Name, same_name}
+use Rattle.tb_model.specs.Names.{Name}
 use Rattle.tb_model.specs.Facts.{is_of, spawns, IsSpawned, is_store_to, last}
 use Rattle.tb_model.specs.Legal.{Cells, Legal, first_number}
 use Rattle.tb_model.specs.State.{spawn_of, called_by}
@@ -12,7 +12,7 @@ use Rattle.tb_model.specs.Lines.{Departure, events_of, line_of}
 use Rattle.tb_model.specs.Records.{replaced_by, register, register_of, args_in}
 use Rattle.tb_model.specs.Needs.{conflicts, step_of}
 use Rattle.tb_model.specs.Reordering.{IsUnneeded}
-use Rattle.tb_model.proofs.TestLemmas.{same_true, same_refl}
+use Rattle.tb_model.proofs.TestLemmas.{other_way}
 use Rattle.tb_model.proofs.FactsLemmas.{own_other, not_again, grown}
 use Rattle.tb_model.proofs.PartsLemmas.{not_stored}
 use Rattle.tb_model.proofs.UndoLemmas.{AreFree, single}
@@ -21,14 +21,6 @@ use Rattle.tb_undo.specs.Tasks.{register_by}
 use Rattle.tb_undo.specs.State.{Seen}
 use Rattle.tb_undo.specs.Steps.{replaced_for, Precedes}
 use Rattle.tb_undo.proofs.TieLemmas.{at_end, acting, map_events}
-
--- two names differ both ways
-other_way : (t u : Name) → same_name t u ≡ false → same_name u t ≡ false
-other_way t u e = at (same_name u t) refl
-  where
-    at : (b : Bool) → same_name u t ≡ b → b ≡ false
-    at false q = refl
-    at true q = absurd (false≢true (sym e ∙ ap (same_name t) (same_true u t q) ∙ same_refl t))
 
 -- an action that doesn't conflict with a store to the cell doesn't store to it
 unstored : (a : Action) (c : ℕ) (x : ℤ) → conflicts a (Store c x) ≡ false → is_store_to c a ≡ false
