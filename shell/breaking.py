@@ -1,4 +1,4 @@
-"""The commands of breakpoints, watched numbers and expressions, and of what the shell is set to."""
+"""The commands of breakpoints, watched values and expressions, and of what the shell is set to."""
 
 from __future__ import annotations
 
@@ -19,7 +19,7 @@ SETTINGS = ("run-breaks", "pager")
 
 
 class Breaking(Group):
-    """Breakpoints, watched numbers, expressions and settings."""
+    """Breakpoints, watched values, expressions and settings."""
 
     def __init__(self, shell: Host) -> None:
         super().__init__(shell)
@@ -52,7 +52,7 @@ class Breaking(Group):
         elif source.is_step(number):
             self.add(Where("line", str(number)), condition, f"go stops after each step at {number}: {line}")
         else:
-            self.refuse(f"no step is taken at line {number}")
+            self.refuse(f"no step is executed at line {number}")
 
     def break_place(self, place: str, condition: str) -> None:
         """A breakpoint at a line of the C file of a recorded run."""
@@ -60,7 +60,7 @@ class Breaking(Group):
         if numbers:
             self.add(Where("line", place), condition, f"go stops after each step at {counted(len(numbers), 'line')} of the session")
         else:
-            self.refuse(f"no step is taken at {place}")
+            self.refuse(f"no step is executed at {place}")
 
     def break_where(self, where: Words, condition: str) -> None:
         """A breakpoint with a condition: the program has none, so it isn't asked whether there can be one."""
@@ -133,13 +133,13 @@ class Breaking(Group):
             line = int(stop.where.what) if isinstance(stop, Breakpoint) and stop.where.kind == "line" and is_digits(stop.where.what) else None
             self.console.reply(f"s{number} {stop}", line, f"{line}: {self.session.source.shown(line)}" if line else "")
 
-    def tell_met(self, name: str | None) -> None:
+    def report_met(self, name: str | None) -> None:
         """Which of the program's breakpoints the newest step meets."""
         if name is None:
             return
         line = self.session.line_of(name)
         for number, where in program_stops(self.session.view("breaks")[1:]):
-            if where.meets(line, self.session.places):
+            if where.meets(line, self.session.positions):
                 self.note(f"breakpoint {number}: {where}")
 
     # Expressions
