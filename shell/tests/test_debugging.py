@@ -52,6 +52,11 @@ class Stopping(unittest.TestCase):
                          [["cleared s2"], ["no breakpoint s2; `breaks` shows them"], ["cleared line 5"], ["no breakpoint s9; `breaks` shows them"]])
         self.assertEqual(shell.plain("go")[-1], "ran 60 done")
 
+    def test_the_line_of_a_body_is_cleared_as_it_was_set(self) -> None:
+        shell = Typed(self, example("race.task"))
+        self.assertEqual([shell.plain(line) for line in ("break line 10", "break line 10 if value == 3", "clear line 10", "breaks", "clear line 10")],
+                         [["break 1"], ["break s1 body add if value == 3"], ["cleared 1", "cleared line 10"], ["breaks 0"], ["no breakpoint is at line 10"]])
+
     def test_one_at_the_last_step_that_was_asked_for(self) -> None:
         shell = Typed(self, example("race.task"))
         shell.ask("break line 5")
