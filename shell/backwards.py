@@ -60,11 +60,11 @@ class Backwards(Group):
             self.note(f"breakpoint {text}")
 
     def met_now(self, own: Sequence[tuple[str, Where]]) -> list[str]:
-        """The breakpoints that the newest step of the history meets; watched numbers aren't among them."""
+        """The breakpoints that the newest step of the history meets; watched values aren't among them."""
         if self.session.newest is None:
             return []
         line = self.session.line_of(self.session.newest)
-        found = [f"{number}: {where}" for number, where in own if where.meets(line, self.session.places)]
+        found = [f"{number}: {where}" for number, where in own if where.meets(line, self.session.positions)]
         return found + self.shell.stops.at_step(line, self.session)
 
     def do_rs(self, words: Words) -> None:
@@ -82,7 +82,7 @@ class Backwards(Group):
             return
         count = int(next(line for line in task if line.startswith("steps ")).split(" ")[1])
         if not count:
-            self.refuse(f"task {names[0]} has taken no step")
+            self.refuse(f"task {names[0]} has executed no step")
             return
         step = f"{names[0]}#{count}"
         needers = self.session.view(f"who {step}")[1:]

@@ -1,4 +1,4 @@
-"""The commands of breakpoints, watched numbers and expressions, and of what the shell is set to."""
+"""The commands of breakpoints, watched values and expressions, and of what the shell is set to."""
 
 from __future__ import annotations
 
@@ -14,12 +14,12 @@ from shell.values import Values
 
 TASK = re.compile(r"0(\.[1-9][0-9]*)*")
 # A line of a C file, as `sum.c:12`.
-PLACE = re.compile(r"[^\s:]+:[0-9]+")
+LINE_OF_C = re.compile(r"[^\s:]+:[0-9]+")
 SETTINGS = ("run-breaks", "pager")
 
 
 class Breaking(Group):
-    """Breakpoints, watched numbers, expressions and settings."""
+    """Breakpoints, watched values, expressions and settings."""
 
     def __init__(self, shell: Host) -> None:
         super().__init__(shell)
@@ -36,8 +36,8 @@ class Breaking(Group):
             self.wrong("break")
         elif where[:1] == ["line"] and len(where) == 2 and is_digits(where[1]):
             self.break_line(int(where[1]), condition)
-        elif where[:1] == ["line"] and len(where) == 2 and PLACE.fullmatch(where[1]):
-            self.break_place(where[1], condition)
+        elif where[:1] == ["line"] and len(where) == 2 and LINE_OF_C.fullmatch(where[1]):
+            self.break_line_of_c(where[1], condition)
         elif condition:
             self.break_where(where, condition)
         else:
@@ -52,15 +52,15 @@ class Breaking(Group):
         elif source.is_step(number):
             self.add(Where("line", str(number)), condition, f"go stops after each step at {number}: {line}")
         else:
-            self.refuse(f"no step is taken at line {number}")
+            self.refuse(f"no step is executed at line {number}")
 
-    def break_place(self, place: str, condition: str) -> None:
+    def break_line_of_c(self, name: str, condition: str) -> None:
         """A breakpoint at a line of the C file of a recorded run."""
-        numbers = self.session.source.steps_at(place)
+        numbers = self.session.source.steps_at(name)
         if numbers:
-            self.add(Where("line", place), condition, f"go stops after each step at {counted(len(numbers), 'line')} of the session")
+            self.add(Where("line", name), condition, f"go stops after each step at {counted(len(numbers), 'line')} of the session")
         else:
-            self.refuse(f"no step is taken at {place}")
+            self.refuse(f"no step is executed at {name}")
 
     def break_where(self, where: Words, condition: str) -> None:
         """A breakpoint with a condition: the program has none, so it isn't asked whether there can be one."""
@@ -111,20 +111,33 @@ class Breaking(Group):
     def do_clear(self, words: Words) -> None:
         """Takes a breakpoint away."""
         stops = self.shell.stops
-        if len(words) == 2 and words[0] == "line" and (is_digits(words[1]) or PLACE.fullmatch(words[1])):
-            def is_there(number: int, stop: Stop) -> bool:
-                return isinstance(stop, Breakpoint) and stop.where == Where("line", words[1])
-            gone, text = stops.clear(is_there), f"line {words[1]}"
+        if len(words) == 2 and words[0] == "line" and (is_digits(words[1]) or LINE_OF_C.fullmatch(words[1])):
+            self.clear_line(words[1])
         elif len(words) == 1 and words[0].startswith("s") and is_digits(words[0][1:]):
             wanted = int(words[0][1:])
-            gone, text = stops.clear(lambda number, stop: number == wanted), words[0]
+            if stops.clear(lambda number, stop: number == wanted):
+                self.say(f"cleared {words[0]}")
+            else:
+                self.refuse(f"no breakpoint {words[0]}; `breaks` shows them")
         else:
             self.shell.send(" ".join(["clear", *words]))
-            return
+
+    def clear_line(self, name: str) -> None:
+        """Takes the breakpoints at a line away; on the line of a body those of the body, also the program's own."""
+        line = self.session.source.line(int(name)) if is_digits(name) else ""
+        where = Where("body", line.split(" ")[1]) if line.startswith("body ") else Where("line", name)
+
+        def is_there(number: int, stop: Stop) -> bool:
+            return isinstance(stop, Breakpoint) and stop.where == where
+
+        gone = self.shell.stops.clear(is_there)
+        own = [number for number, other in program_stops(self.session.view("breaks")[1:]) if other == where]
+        for number in own:
+            self.shell.send(f"clear {number}")
         if gone:
-            self.say(f"cleared {text}")
-        else:
-            self.refuse(f"no breakpoint is at {text}" if text.startswith("line") else f"no breakpoint {text}; `breaks` shows them")
+            self.say(f"cleared line {name}")
+        elif not own:
+            self.refuse(f"no breakpoint is at line {name}")
 
     def do_breaks(self, words: Words) -> None:
         """The breakpoints of the program, and the shell's own."""
@@ -133,13 +146,13 @@ class Breaking(Group):
             line = int(stop.where.what) if isinstance(stop, Breakpoint) and stop.where.kind == "line" and is_digits(stop.where.what) else None
             self.console.reply(f"s{number} {stop}", line, f"{line}: {self.session.source.shown(line)}" if line else "")
 
-    def tell_met(self, name: str | None) -> None:
+    def report_met(self, name: str | None) -> None:
         """Which of the program's breakpoints the newest step meets."""
         if name is None:
             return
         line = self.session.line_of(name)
         for number, where in program_stops(self.session.view("breaks")[1:]):
-            if where.meets(line, self.session.places):
+            if where.meets(line, self.session.positions):
                 self.note(f"breakpoint {number}: {where}")
 
     # Expressions

@@ -82,7 +82,7 @@ class Shell(cmd.Cmd):
         """One line of a reply."""
         parts, first = [], None
         for step in STEP.findall(line):
-            number = self.session.places.line_of(step)
+            number = self.session.positions.line_of(step)
             first = first or number
             if number:
                 parts.append(f"{number}: {self.session.source.shown(number)}")
@@ -106,21 +106,21 @@ class Shell(cmd.Cmd):
 
     def explain(self, command: str, line: str) -> None:
         """Says in words what a refusal, an error or a full journal means."""
-        told = line.split(" ")
-        if told[0] == "error":
+        parts = line.split(" ")
+        if parts[0] == "error":
             self.outcome = max(self.outcome, Outcome.ERROR)
-            if told == ["error", "word"] and words_of(command)[0] in ("races", "causes", "edges"):
+            if parts == ["error", "word"] and words_of(command)[0] in ("races", "causes", "edges"):
                 self.console.note("this build has no such view")
             else:
-                text = texts.error_words(command, told[-1], self.session.workers, list(self.session.source.bodies))
+                text = texts.error_words(command, parts[-1], self.session.workers, list(self.session.source.bodies))
                 self.console.note(TASK.sub(self.focus, text) if text.startswith("did you mean") else text)
-        elif told[0] == "refused":
+        elif parts[0] == "refused":
             self.outcome = max(self.outcome, Outcome.REFUSED)
             text = texts.refusal_words(command, line, self.session)
-            if told[2] in ("Waiting", "Excluded"):
-                text += self.clauses(words_of(command)[1], told[3])
+            if parts[2] in ("Waiting", "Excluded"):
+                text += self.clauses(words_of(command)[1], parts[3])
             self.console.note(text)
-        elif told[0] == "ran" and told[-1] == "full":
+        elif parts[0] == "ran" and parts[-1] == "full":
             self.console.note(texts.full_words(self.session))
 
     def items_of(self, task: str) -> list[str]:
@@ -135,7 +135,7 @@ class Shell(cmd.Cmd):
             return ""
         new, old = (f"depend {item}" for item in pair)
         text = f": {new}" if new == old else f": {new} comes after {old}"
-        lines = [line for name in (other, task) if (line := self.session.places.spawned.get(name)) is not None]
+        lines = [line for name in (other, task) if (line := self.session.positions.spawned.get(name)) is not None]
         if len(lines) < 2:
             return text
         if new == old:
@@ -161,7 +161,7 @@ class Shell(cmd.Cmd):
         try:
             return self.carry_out(whole(line))
         except Cut:
-            return self.resume() if self.session.program.is_cut else self.stopped_beside()
+            return self.resume() if self.session.program.is_cut else self.stopped_in_another()
         except Ended as ended:
             return self.end(ended)
         finally:
@@ -181,7 +181,7 @@ class Shell(cmd.Cmd):
             Program.cut()
         self.interrupted = True
 
-    def stopped_beside(self) -> bool:
+    def stopped_in_another(self) -> bool:
         """After a reply of a second program was cut the session is as it was."""
         self.console.end_progress()
         self.console.note(f"stopped by {self.console.stopper}; the session is as it was")

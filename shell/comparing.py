@@ -52,16 +52,16 @@ def first_difference(one: Session, two: Session) -> Found | None:
     here, there = needs_of(one, asks), needs_of(two, asks)
     for name, did in one.history.items():
         if two.history.get(name) != did or sorted(here.get(name, ())) != sorted(there.get(name, ())):
-            return Found(name, did, two.history.get(name, "not taken"))
+            return Found(name, did, two.history.get(name, "not executed"))
     extra = next((name for name in two.history if name not in one.history), None)
-    return None if extra is None else Found(extra, "not taken", two.history[extra])
+    return None if extra is None else Found(extra, "not executed", two.history[extra])
 
 
 def flip(other: Session, race: Race, stop: Callable[[], bool]) -> str | None:
     """Brings the later step of a race to the front in a session, and returns why it couldn't, if so.
 
     The earlier step is taken back with all that needs it; where its task excludes the other's, its whole task is.
-    Then its task takes no step until the later one was taken.
+    Then its task executes no step until the later one was executed.
     """
     early, late = race.first.split("#")[0], race.second.split("#")[0]
     other.do(f"rolltask {early}" if race.apart else f"roll {race.first}")
@@ -104,11 +104,11 @@ class Comparing(Group):
             self.refuse(f"{words[0]}: {fault}")
             return
         try:
-            self.tell(words[0], other)
+            self.report(words[0], other)
         finally:
             other.close()
 
-    def tell(self, path: str, other: Session) -> None:
+    def report(self, path: str, other: Session) -> None:
         """What differs from another session."""
         if other.source.text != self.session.source.text:
             self.say(f"{path} has another program")
@@ -168,7 +168,7 @@ class Comparing(Group):
         differing = sorted((cell for cell in cells[0].keys() | cells[1].keys() if cells[0].get(cell, "0") != cells[1].get(cell, "0")), key=int)
         outs = [session.view("out")[1:] for session in (first, second)]
         raced = [name for name in (race.first, race.second) if first.history.get(name) != second.history.get(name)]
-        columns = [[f"{name} {session.history.get(name, 'is not taken')}" for name in raced] for session in (first, second)]
+        columns = [[f"{name} {session.history.get(name, 'is not executed')}" for name in raced] for session in (first, second)]
         for column, there in zip(columns, cells):
             column += [f"cell {cell}: {there.get(cell, '0')}" for cell in differing]
         if outs[0] != outs[1]:

@@ -153,18 +153,18 @@ class Console:
             return
         ended = threading.Event()
 
-        def tell() -> None:
+        def report() -> None:
             while not ended.wait(PROGRESS):
                 self._told = time.monotonic()
                 self.out.write(f"\r\x1b[K  {what}: {int(self._told - self._began)} s; Ctrl-C ends it\r")
                 self.out.flush()
-        teller = threading.Thread(target=tell, daemon=True)
-        teller.start()
+        reporter = threading.Thread(target=report, daemon=True)
+        reporter.start()
         try:
             yield
         finally:
             ended.set()
-            teller.join()
+            reporter.join()
             self.end_progress()
 
     def end_progress(self) -> None:
@@ -239,11 +239,11 @@ class JsonConsole(Console):
 
     def _show(self, record: Record, outcome: Outcome) -> None:
         """Writes the line of a record."""
-        told: dict[str, object] = {"version": VERSION, "number": record.number, "command": record.command, "outcome": outcome.name.lower(),
-                                   "lines": record.lines, "steps": record.steps, "words": record.words}
+        fields: dict[str, object] = {"version": VERSION, "number": record.number, "command": record.command, "outcome": outcome.name.lower(),
+                                     "lines": record.lines, "steps": record.steps, "words": record.words}
         refused = next(filter(None, map(REFUSED.fullmatch, record.lines)), None)
         if refused:
-            told["refusal"] = {"number": int(refused[1]), "name": refused[2], "by": refused[3]}
+            fields["refusal"] = {"number": int(refused[1]), "name": refused[2], "by": refused[3]}
         # Bytes that are no text are escaped, so that a line is always JSON.
-        self.out.write(json.dumps(told) + "\n")
+        self.out.write(json.dumps(fields) + "\n")
         self.out.flush()

@@ -128,9 +128,9 @@ class Drawing(Writing):
             return
         if not self.may_write(names[0], force):
             return
-        told = self.drawn(page_of)
-        if told is None:
+        drawn = self.drawn(page_of)
+        if drawn is None:
             return
-        page, commands, steps = told
+        page, commands, steps = drawn
         if self.write(names[0], page):
             self.say(f"written to {names[0]}, {counted(commands, 'command')} and {counted(steps, 'step')}")

@@ -225,7 +225,7 @@ def tokens_of(text: str) -> list[str]:
         token = TOKEN.match(text, at)
         if not token:
             word = text[at:].split()[0]
-            raise Unreadable(f"`{word}` can't stand in an expression" + ("; a register is written r1" if word.startswith("$") else ""))
+            raise Unreadable(f"`{word}` can't be in an expression" + ("; a register is written r1" if word.startswith("$") else ""))
         found.append(token[0].strip())
         at = token.end()
     return found

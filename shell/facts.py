@@ -110,7 +110,7 @@ class Facts:
 
     def steps(self) -> list[Step]:
         """The steps of the history, from the oldest."""
-        return [Step(name, did, self.session.places.line_of(name)) for name, did in self.session.history.items()]
+        return [Step(name, did, self.session.positions.line_of(name)) for name, did in self.session.history.items()]
 
     def ask_all(self, commands: Sequence[str]) -> Iterator[list[str] | None]:
         """The lines of many views after their counts, as `ask` has them."""
@@ -135,7 +135,7 @@ class Facts:
         lines = self.ask(f"causes {step}")
         return None if lines is None else causes_of(lines)
 
-    def all_causes(self, steps: Sequence[Step], progress: Progress = lambda *told: None) -> dict[str, Causes] | None:
+    def all_causes(self, steps: Sequence[Step], progress: Progress = lambda *counts: None) -> dict[str, Causes] | None:
         """The immediate needs of all steps of the history, by their names; None where the program doesn't show them.
 
         Of more than MOST_ASKED steps they are the direct ones, some of which others imply.
@@ -146,7 +146,7 @@ class Facts:
             return self.worked_out(steps, progress)
         return self.edges() or self.asked([step.name for step in steps], progress)
 
-    def asked(self, names: Sequence[str], progress: Progress = lambda *told: None) -> dict[str, Causes]:
+    def asked(self, names: Sequence[str], progress: Progress = lambda *counts: None) -> dict[str, Causes]:
         """The immediate needs of these steps, asked for one by one."""
         found: dict[str, Causes] = {}
         for name, lines in zip(names, self.ask_all([f"causes {name}" for name in names])):
@@ -154,7 +154,7 @@ class Facts:
             progress(len(found), "steps", len(names))
         return found
 
-    def worked_out(self, steps: Sequence[Step], progress: Progress = lambda *told: None) -> dict[str, Causes]:
+    def worked_out(self, steps: Sequence[Step], progress: Progress = lambda *counts: None) -> dict[str, Causes]:
         """The direct needs of all steps of the history, without asking for them."""
         needs, found = Needs(), {}
         for step in steps:
@@ -201,9 +201,9 @@ class Facts:
                 other, how = line.split(" ")
                 (task.before if how == "before" else task.apart).append(other)
         for task, lines in zip(tasks, self.ask_all([f"task {task.name}" for task in tasks])):
-            told = lines or []
-            at = next(place for place, line in enumerate(told) if line.startswith("items "))
-            task.items = told[at + 1:]
+            found = lines or []
+            at = next(place for place, line in enumerate(found) if line.startswith("items "))
+            task.items = found[at + 1:]
 
     def work_out_order(self, tasks: dict[str, Task]) -> None:
         """The same from the lines of the history, without dependences that others imply."""

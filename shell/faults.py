@@ -20,7 +20,7 @@ FAULTS = {
     "NoCells": "the program begins with a line `cells N`", "BadNumber": "a number or a register is expected",
     "CellRange": "the program has no such cell", "UnknownWord": "no such word here",
     "UnknownBody": "no body has this name", "Arity": "too few words, or too many",
-    "Nesting": "this line can't stand here, or a block is still open", "NoMain": "no body is named main",
+    "Nesting": "this line can't be here, or a block is still open", "NoMain": "no body is named main",
     "Duplicate": "this is given twice", "Register": "the registers are r0 to r15",
     "TooLarge": "more than the program allows", "NotText": "a byte that is no text",
     "DependType": "the types are in, out, inout, mutexinoutset and inoutset",
@@ -47,17 +47,17 @@ def is_operand(word: str) -> bool:
 
 # Which word is at fault
 
-def first_where(words: Sequence[str], places: Iterable[int], wrong: Callable[[str], bool]) -> int | None:
-    """The first of these places whose word is wrong."""
-    return next((place for place in places if place < len(words) and wrong(words[place])), None)
+def first_where(words: Sequence[str], indexes: Iterable[int], wrong: Callable[[str], bool]) -> int | None:
+    """The first of these indexes whose word is wrong."""
+    return next((index for index in indexes if index < len(words) and wrong(words[index])), None)
 
 
 def number_at_fault(words: Sequence[str]) -> int | None:
     """Which word should be a number and is none."""
     word = words[0]
     if word in ("cells", "cell", "body"):
-        places = (2,) if word == "body" else (1, 2)
-        return first_where(words, places, lambda given: not is_number(given) or (word != "cell" and given.startswith("-")))
+        indexes = (2,) if word == "body" else (1, 2)
+        return first_where(words, indexes, lambda given: not is_number(given) or (word != "cell" and given.startswith("-")))
     of_word: dict[str, tuple[int, ...]] = {"let": (2, 4), "load": (2,), "store": (1, 2), "print": (1,), "if": (1, 3), "while": (1, 3)}
     if word == "task":
         stop = next((at for at, given in enumerate(words) if given in ("depend", "if")), len(words))
@@ -69,7 +69,7 @@ def number_at_fault(words: Sequence[str]) -> int | None:
 
 
 def items_at(words: Sequence[str]) -> list[int]:
-    """The places of `depend`."""
+    """The indexes of `depend`."""
     return [at for at, given in enumerate(words) if given == "depend"]
 
 
@@ -108,8 +108,8 @@ def unknown_at_fault(words: Sequence[str]) -> int | None:
         return 0
     if words[0] in ("task", "taskwait"):
         return clause_at_fault(words)
-    place = {"let": 3, "if": 2, "while": 2, "body": 1}.get(words[0])
-    return place if place is not None and place < len(words) else None
+    index = {"let": 3, "if": 2, "while": 2, "body": 1}.get(words[0])
+    return index if index is not None and index < len(words) else None
 
 
 def register_at_fault(words: Sequence[str]) -> int | None:
@@ -119,7 +119,7 @@ def register_at_fault(words: Sequence[str]) -> int | None:
 
 
 def word_at_fault(words: Sequence[str], kind: str) -> int | None:
-    """The place of the word at fault; None where that isn't known."""
+    """The index of the word at fault; None where that isn't known."""
     if not words:
         return None
     by_kind = {"BadNumber": number_at_fault, "UnknownWord": unknown_at_fault, "Register": register_at_fault, "DependType": type_at_fault}
@@ -171,8 +171,8 @@ def nesting_words(lines: Sequence[str], number: int, words: Sequence[str]) -> st
     if words[0] == "else":
         return f"this `else` has no `if`: the innermost block is the {innermost}" if opened else "this `else` has no `if`"
     if words[0] in ("cells", "cell"):
-        return "cells stand in front of the first body"
-    return FAULTS["Nesting"] if opened else "a statement stands in a body: `body NAME PARAMETERS` comes first"
+        return "cells come before the first body"
+    return FAULTS["Nesting"] if opened else "a statement is in a body: `body NAME PARAMETERS` comes first"
 
 
 def parameters_of(lines: Sequence[str], name: str) -> int | None:
@@ -220,10 +220,10 @@ def meaning_of(kind: str, lines: Sequence[str], number: int, words: Sequence[str
     if kind == "UnknownWord" and words and words[0] in ("task", "taskwait") and (at := clause_at_fault(words)) is not None:
         return "the comparisons are ==, !=, < and <=" if words[at - 2] == "if" else "a clause is `depend TYPE ADDR`, or at the end of a task `if A CMP B`"
     if kind == "UnknownBody":
-        return FAULTS[kind] + there_are([told[1] for told in map(words_of, lines) if told[:1] == ["body"] and len(told) > 1])
+        return FAULTS[kind] + there_are([parts[1] for parts in map(words_of, lines) if parts[:1] == ["body"] and len(parts) > 1])
     if kind == "NoMain":
-        near = next((told[1] for told in map(words_of, lines) if told[:1] == ["body"] and len(told) > 1 and told[1].lower() == "main"), None)
-        return FAULTS[kind] + (f"; the name is written `main`, and not `{near}`" if near else "")
+        close = next((line_words[1] for line_words in map(words_of, lines) if line_words[:1] == ["body"] and len(line_words) > 1 and line_words[1].lower() == "main"), None)
+        return FAULTS[kind] + (f"; the name is written `main`, and not `{close}`" if close else "")
     return FAULTS.get(kind, kind)
 
 
@@ -254,16 +254,16 @@ def should_be(words: Sequence[str], line: str | None = None) -> str | None:
     if words[0] != lower and lower in FORMS:
         return " ".join([lower, *words[1:]])
     if words[0] not in FORMS:
-        near = difflib.get_close_matches(words[0], FORMS, 1)
-        return FORMS[near[0]] if near else None
+        close = difflib.get_close_matches(words[0], FORMS, 1)
+        return FORMS[close[0]] if close else None
     return FORMS[words[0]]
 
 
 def nearest_body(lines: Sequence[str], words: Sequence[str]) -> str | None:
     """The line with the body that it may mean, where the one that it names isn't there."""
-    bodies = [told[1] for told in map(words_of, lines) if told[:1] == ["body"] and len(told) > 1]
-    near = difflib.get_close_matches(words[1], bodies, 1) if len(words) > 1 else []
-    return " ".join([words[0], near[0], *words[2:]]) if near else None
+    bodies = [parts[1] for parts in map(words_of, lines) if parts[:1] == ["body"] and len(parts) > 1]
+    close = difflib.get_close_matches(words[1], bodies, 1) if len(words) > 1 else []
+    return " ".join([words[0], close[0], *words[2:]]) if close else None
 
 
 def form_of(kind: str, lines: Sequence[str], words: Sequence[str], line: str) -> str | None:
@@ -288,10 +288,10 @@ def fault_lines(name: str, text: str, number: int, kind: str) -> list[str]:
     line = lines[number - 1].replace("\t", " ").strip()
     head = f"{name}:{number}: "
     shown = [head + line]
-    place = word_at_fault(words, kind)
-    if place is not None:
+    index = word_at_fault(words, kind)
+    if index is not None:
         starts = [found.start() for found in re.finditer(r"[^ \r]+", line)]
-        shown.append(" " * (len(head) + starts[place]) + "^" * len(words[place]))
+        shown.append(" " * (len(head) + starts[index]) + "^" * len(words[index]))
     shown.append(f"  {meaning} ({kind})")
     form = form_of(kind, lines, words, line)
     return shown + ([f"  it should look like: {form}"] if form else [])

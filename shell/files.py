@@ -35,14 +35,14 @@ def replace_by(path: str, write: Callable[[str], None]) -> None:
         write(real)
         return
     base, ending = os.path.splitext(os.path.basename(real))
-    handle, beside = tempfile.mkstemp(suffix=ending, prefix=f".{base[:40]}.", dir=os.path.dirname(real) or ".")
+    handle, temporary = tempfile.mkstemp(suffix=ending, prefix=f".{base[:40]}.", dir=os.path.dirname(real) or ".")
     os.close(handle)
     try:
-        write(beside)
-        os.chmod(beside, stat.S_IMODE(os.stat(real).st_mode) if there else 0o666 & ~umask())
-        os.replace(beside, real)
+        write(temporary)
+        os.chmod(temporary, stat.S_IMODE(os.stat(real).st_mode) if there else 0o666 & ~umask())
+        os.replace(temporary, real)
     except BaseException:
-        os.unlink(beside)
+        os.unlink(temporary)
         raise
 
 

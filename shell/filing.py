@@ -54,7 +54,7 @@ class Filing(Writing):
             return
         self.say(f"saved {names[0]}, {counted(len(self.session.log), 'command')}" + (f" and {counted(len(own), 'breakpoint')}" if own else ""))
         if any(done.ended for done in self.session.log):
-            self.note("what several workers did is saved as the steps that they took")
+            self.note("what several workers did is saved as the steps that they executed")
 
     def do_restart(self, words: Words) -> None:
         """Starts anew."""
@@ -63,7 +63,7 @@ class Filing(Writing):
         self.say("started anew" + (f", with {counted(count, 'breakpoint')}" if count else ""))
 
     def do_limit(self, words: Words) -> None:
-        """More room in the journal."""
+        """A longer journal."""
         if len(words) != 1 or not is_digits(words[0]) or not 1 <= int(words[0]) <= GREATEST_LIMIT:
             self.fail("limit wants a number, 1 to 1000000: limit 200000")
         elif int(words[0]) == (self.session.limit or LIMIT):

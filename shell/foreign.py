@@ -60,7 +60,7 @@ def of_test(line: str) -> str | None:
 
 
 def of_else(line: str) -> str | None:
-    """A test behind an `else`, or brackets around it."""
+    """A test after an `else`, or brackets around it."""
     found = re.fullmatch(r"\}?\s*else\s*(if\b.*|\{?)", line)
     if not found:
         return None

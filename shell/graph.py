@@ -101,7 +101,7 @@ def waits_of(facts: Facts, steps: Sequence[Step]) -> list[Wait] | None:
     return [Wait(step.name, step.line, [early.split("#")[0] for kind, early in needs[step.name] if kind == "wait"]) for step in waits]
 
 
-def graph_of(session: Session, stop: Callable[[], bool] = lambda: False, progress: Progress = lambda *told: None) -> Graph:
+def graph_of(session: Session, stop: Callable[[], bool] = lambda: False, progress: Progress = lambda *counts: None) -> Graph:
     """The graph of a session at this moment."""
     facts = Facts(session, stop)
     tasks, steps = facts.tasks(), facts.steps()

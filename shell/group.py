@@ -20,7 +20,7 @@ class Breakers(Protocol):
 
     run_breaks: bool
 
-    def tell_met(self, name: str | None) -> None:
+    def report_met(self, name: str | None) -> None:
         """Which of the program's breakpoints a step meets."""
 
 
@@ -72,12 +72,12 @@ class Host(Protocol):
         """Carries out a line as it would be typed; true ends the shell."""
 
 
-def count_in(words: Words, place: int, usual: int) -> int | None:
-    """The number at this place, `usual` where it lacks, None where it is none."""
-    if len(words) <= place:
+def count_in(words: Words, index: int, usual: int) -> int | None:
+    """The number at this index, `usual` where it lacks, None where it is none."""
+    if len(words) <= index:
         return usual
-    if len(words) == place + 1 and is_digits(words[place]) and int(words[place]) <= GREATEST_LIMIT:
-        return int(words[place])
+    if len(words) == index + 1 and is_digits(words[index]) and int(words[index]) <= GREATEST_LIMIT:
+        return int(words[index])
     return None
 
 
@@ -113,7 +113,7 @@ class Group:
     def wrong(self, name: str) -> None:
         """A command with the wrong words: how it is written."""
         entry = help_texts.HELP[name]
-        self.fail(f"`{name}` stands alone" if entry.usage == name else f"{entry.usage}, for example: {entry.example}")
+        self.fail(f"`{name}` takes no words" if entry.usage == name else f"{entry.usage}, for example: {entry.example}")
 
     def fail(self, text: str) -> None:
         """A command that can't be carried out as it is written."""

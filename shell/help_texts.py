@@ -18,9 +18,9 @@ class Help(NamedTuple):
 HELP = {
     "step": Help("step [T [N]]", "the next step of task T, or N of them; alone: of the least task that can step", "step 0.1 3"),
     "run": Help("run [-v] [N]", "up to N steps, each of the least task that can step; Ctrl-C stops it; -v shows all lines", "run 20"),
-    "go": Help("go [-v] [[W] N]", "as run, but stops at breakpoints; W worker threads take the steps, one where W isn't given", "go 4 100"),
+    "go": Help("go [-v] [[W] N]", "as run, but stops at breakpoints; W workers execute the steps, one where W isn't given", "go 4 100"),
     "finish": Help("finish [T]", "steps task T until it ends or has to wait", "finish 0.1"),
-    "until": Help("until T#K", "runs until step T#K is taken", "until 0.2#4"),
+    "until": Help("until T#K", "runs until step T#K is executed", "until 0.2#4"),
     "random": Help("random SEED [N]", "up to N steps, each of any task that can step; a seed gives the same steps again", "random 7 20"),
     "last": Help("last [N]", "up to N steps, each of the task with the greatest name", "last 5"),
     "back": Help("back [N]", "undoes the newest step, or the N newest", "back"),
@@ -31,14 +31,14 @@ HELP = {
     "rolltask": Help("rolltask T", "takes back the start of task T with all that need it", "rolltask 0.1"),
     "rollcell": Help("rollcell C", "takes back the last store to cell C with all that need it", "rollcell 0"),
     "rollprint": Help("rollprint", "takes back the last print with all that need it", "rollprint"),
-    "redo": Help("redo [T#K]", "takes the steps again that the newest undo or roll took back; or T#K of them with what it needs", "redo"),
+    "redo": Help("redo [T#K]", "executes the steps again that the newest undo or roll took back; or T#K of them with what it needs", "redo"),
     "keep": Help("keep T#K", "takes back all that step T#K doesn't need", "keep 0.1#4"),
     "at": Help("at T#K | at N | at now", "looks at the state after step T#K, or after N steps, without taking anything back", "at 0.1#4"),
     "break": Help("break task T | cell C | body NAME | print | fault | line L  [if EXPR]", "where go stops, after the step", "break line 12 if r0 > 3"),
-    "watch": Help("watch EXPR", "go and rc stop where the number of EXPR changes", "watch r2 of 0.1"),
+    "watch": Help("watch EXPR", "go and rc stop where the value of EXPR changes", "watch r2 of 0.1"),
     "clear": Help("clear N | clear sN | clear line L", "takes a breakpoint away", "clear 1"),
     "breaks": Help("breaks", "the breakpoints", "breaks"),
-    "print": Help("print EXPR", "a number of registers, cells, arguments and counts of steps", "print r0 + c[3]"),
+    "print": Help("print EXPR", "the value of an expression over registers, cells, arguments and counts of steps", "print r0 + c[3]"),
     "display": Help("display [EXPR]", "shows EXPR after each command that steps; alone: shows all of them", "display c[0]"),
     "undisplay": Help("undisplay N", "shows the Nth expression no more", "undisplay 1"),
     "list": Help("list [T|LINE|BODY]", "the source, with marks where tasks are", "list 0.1"),
@@ -74,7 +74,7 @@ HELP = {
 }
 
 # Where a section of the list of commands begins.
-SECTIONS = {"step": "Forwards", "back": "Backwards", "at": "The past", "break": "Stops and numbers", "list": "What there is",
+SECTIONS = {"step": "Forwards", "back": "Backwards", "at": "The past", "break": "Stops and values", "list": "What there is",
             "why": "Why, and how else", "graph": "Pictures and the page", "info": "The session and the shell"}
 
 ABBREVIATIONS = {"s": "step", "r": "run", "b": "break", "u": "undo", "i": "info", "l": "list", "c": "go", "p": "print",
@@ -132,8 +132,8 @@ def break_meant(words: Sequence[str], bodies: Sequence[str]) -> str | None:
     cell = re.fullmatch(r"c\[([0-9]+)\]", word)
     if cell:
         return " ".join(["break cell", cell[1], *words[2:]])
-    near = difflib.get_close_matches(word, KINDS, 1)
-    return " ".join(["break", near[0], *words[2:]]) if near else None
+    close = difflib.get_close_matches(word, KINDS, 1)
+    return " ".join(["break", close[0], *words[2:]]) if close else None
 
 
 def from_elsewhere(word: str, rest: str) -> str:
@@ -170,12 +170,12 @@ def meant(words: Sequence[str], bodies: Sequence[str]) -> str:
         found = from_elsewhere(word, " ".join(words[1:]))
     else:
         swapped = [word[:at] + word[at:at + 2][::-1] + word[at + 2:] for at in range(len(word) - 1)]
-        near = difflib.get_close_matches(word, HELP, 1)
+        close = difflib.get_close_matches(word, HELP, 1)
         # A shorter word is less likely than two letters that changed places.
-        if not near or len(near[0]) < len(word):
-            near = [other for other in swapped if other in HELP] or near
-        found = " ".join([near[0], *words[1:]]) if near else None
-        if near == ["break"]:
+        if not close or len(close[0]) < len(word):
+            close = [other for other in swapped if other in HELP] or close
+        found = " ".join([close[0], *words[1:]]) if close else None
+        if close == ["break"]:
             found = break_meant(["break", *words[1:]], bodies) or found
     if found is None and len(fitting) == 1:
         # A command whose second word is none of its kinds.
@@ -189,8 +189,8 @@ def instead(word: str) -> str:
         return f"; {ABSENT[word]}"
     if word in ELSEWHERE:
         return f"; here it is `{ELSEWHERE[word]}`"
-    near = difflib.get_close_matches(word, HELP, 1)
-    return f"; did you mean `help {near[0]}`?" if near else "; `help` lists them"
+    close = difflib.get_close_matches(word, HELP, 1)
+    return f"; did you mean `help {close[0]}`?" if close else "; `help` lists them"
 
 
 def help_list(columns: int) -> list[str]:

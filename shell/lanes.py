@@ -50,7 +50,7 @@ class Lanes:
 
 
 def lanes_of(session: Session, chosen: str | None = None, stop: Callable[[], bool] = lambda: False,
-             progress: Progress = lambda *told: None) -> Lanes | None:
+             progress: Progress = lambda *counts: None) -> Lanes | None:
     """The lanes of a session at this moment; the shaded steps are those that `roll` of the chosen one would take."""
     facts = Facts(session, stop)
     steps = facts.steps()
@@ -59,7 +59,7 @@ def lanes_of(session: Session, chosen: str | None = None, stop: Callable[[], boo
     tasks = sorted(facts.task_states().values(), key=lambda task: by_name(task.name))
     if shaded is None:
         return None
-    recorded = {step.name: session.source.place(step.line) for step in steps if session.source.recorded(step.line)}
+    recorded = {step.name: session.source.line_name(step.line) for step in steps if session.source.recorded(step.line)}
     return Lanes(session.source.name, tasks, steps, causes, facts.races(), chosen, frozenset(shaded), recorded,
                  bodies_of(tasks), len(steps) > MOST_ASKED)
 
@@ -99,28 +99,28 @@ def lives(steps: Sequence[Step], names: Iterable[str]) -> dict[str, tuple[int, i
 
 
 def cut(text: str, width: int) -> str:
-    """The text in this many places."""
+    """The text in this many columns."""
     return text if len(text) <= width else text[:max(0, width - 1)] + "~"
 
 
 def text_rows(lanes: Lanes, width: int, shade: Callable[[str], str] = lambda text: text) -> list[str]:
     """The lines of the picture at a terminal of this width; `shade` marks a line that has a `*`."""
     names = [task.name for task in lanes.tasks]
-    room = max([min(len(step.did), 16) for step in lanes.steps] + [5]) + 2
-    # To the right of them are notes, and the steps of tasks for whose lanes there is no place.
-    fit = len(names) if 2 + room * len(names) + LEAST_NOTE <= width else max(1, (width - 2 - NOTE) // room)
+    column = max([min(len(step.did), 16) for step in lanes.steps] + [5]) + 2
+    # To the right of them are notes, and the steps of tasks whose lanes don't fit.
+    fit = len(names) if 2 + column * len(names) + LEAST_NOTE <= width else max(1, (width - 2 - NOTE) // column)
     hidden = names[fit:]
     names = names[:fit]
     there = lives(lanes.steps, names)
     races = by_later(lanes.races)
-    rows = ["  " + "".join(cut(name, room - 1).ljust(room) for name in names).rstrip(),
-            "  " + "".join(cut(task.body, room - 1).ljust(room) for task in lanes.tasks[:fit]).rstrip()]
+    rows = ["  " + "".join(cut(name, column - 1).ljust(column) for name in names).rstrip(),
+            "  " + "".join(cut(task.body, column - 1).ljust(column) for task in lanes.tasks[:fit]).rstrip()]
     for at, step in enumerate(lanes.steps):
-        cells = [cut(step.did, room - 1) if name == step.task else "|" if there[name][0] < at < there[name][1] else ""
+        cells = [cut(step.did, column - 1) if name == step.task else "|" if there[name][0] < at < there[name][1] else ""
                  for name in names]
         mark = "* " if step.name in lanes.shaded else "  "
         away = f"{step.name} {step.did} " if step.task in hidden else ""
-        row = mark + "".join(cell.ljust(room) for cell in cells) + away + note_of(lanes, step, races)
+        row = mark + "".join(cell.ljust(column) for cell in cells) + away + note_of(lanes, step, races)
         row = cut(row.rstrip(), width)
         rows.append(shade(row) if step.name in lanes.shaded else row)
     if hidden:

@@ -59,10 +59,10 @@ def overview_of(lanes: Lanes, files: list[str]) -> str:
     for race in lanes.races or ():
         (one, early), (two, late) = ((x[name.split("#")[0]], row[name]) for name in (race.first, race.second))
         parts.append(f'<path class="race" stroke="{RED}" stroke-width="1.5" d="M{one} {early:.1f} L{two} {late:.1f}"/>')
-    told = f"{counted(len(lanes.tasks), 'task')}, {counted(count, 'step')}, {counted(len(lanes.races or ()), 'race')} in red; each frame is a page of {MOST_LANES}"
+    heading = f"{counted(len(lanes.tasks), 'task')}, {counted(count, 'step')}, {counted(len(lanes.races or ()), 'race')} in red; each frame is a page of {MOST_LANES}"
     return (f'<svg xmlns="http://www.w3.org/2000/svg" role="img" width="{max(wide, 560)}" height="{high:.0f}" viewBox="0 0 {max(wide, 560)} {high:.0f}">\n'
             f'<title>{escape(f"The tasks of {lanes.title}")}</title>\n<style>text{{font:11px ui-monospace,monospace;fill:#1b1b1b}}path{{fill:none;stroke-width:2}}</style>\n'
-            f'<rect width="100%" height="100%" fill="#fff"/>\n<text x="{LEFT}" y="20">{escape(told)}</text>\n' + "\n".join(parts) + "\n</svg>\n")
+            f'<rect width="100%" height="100%" fill="#fff"/>\n<text x="{LEFT}" y="20">{escape(heading)}</text>\n' + "\n".join(parts) + "\n</svg>\n")
 
 
 def pages_of(path: str, lanes: Lanes) -> list[str]:

@@ -50,17 +50,17 @@ class Needs:
         self.printed: Need | None = None
 
     def direct(self, name: str, did: str) -> list[tuple[str, int]]:
-        """The direct needs of the next step, as pairs of kind and place, from the oldest; the first reason counts."""
+        """The direct needs of the next step, as pairs of kind and index, from the oldest; the first reason counts."""
         task, words = name.partition("#")[0], did.split(" ")
-        near: dict[int, str] = {}
-        for place, kind in self.reasons(task, words):
-            near.setdefault(place, kind)
-        self.take(task, words, self.count)
+        kinds: dict[int, str] = {}
+        for index, kind in self.reasons(task, words):
+            kinds.setdefault(index, kind)
+        self.note(task, words, self.count)
         self.count += 1
-        return [(near[place], place) for place in sorted(near)]
+        return [(kinds[index], index) for index in sorted(kinds)]
 
     def reasons(self, task: str, words: Sequence[str]) -> Iterator[Need]:
-        """Direct needs, and among them all immediate ones: pairs of place and kind."""
+        """Direct needs, and among them all immediate ones: pairs of index and kind."""
         if task in self.newest:
             yield self.newest[task], "task"
         elif task in self.spawned:
@@ -84,15 +84,15 @@ class Needs:
 
     def sharers(self, task: str, word: str, cell: str) -> list[Need]:
         """The newest store to a cell, and for a store the loads after it; but no step of the task itself."""
-        places = [self.stores[cell]] if cell in self.stores else []
+        indexes = [self.stores[cell]] if cell in self.stores else []
         if word == "store":
-            places += self.loads.get(cell, [])
-        return [(place, f"cell {cell}") for place, other in places if other != task]
+            indexes += self.loads.get(cell, [])
+        return [(index, f"cell {cell}") for index, other in indexes if other != task]
 
     def ordered(self, task: str) -> Iterator[Need]:
         """The ends of the siblings for which the start of this one waits, or that exclude it."""
         own = self.spawned[task]
-        for other in self.near(own):
+        for other in self.candidates(own):
             if other == task or other not in self.ended:
                 continue
             elder = number_of(other) < number_of(task)
@@ -103,7 +103,7 @@ class Needs:
             elif "apart" in how:
                 yield self.ended[other], "apart"
 
-    def near(self, own: Spawned) -> Iterable[str]:
+    def candidates(self, own: Spawned) -> Iterable[str]:
         """The siblings among which the immediate needs are: others come before these."""
         cells = [item.split(" ")[1] for item in own.items if item.startswith("mutexinoutset ")]
         return [*own.before, *(self.exclusive[own.parent, cell] for cell in cells if (own.parent, cell) in self.exclusive)]
@@ -121,7 +121,7 @@ class Needs:
             yield member
             left += self.children.get(member, ())
 
-    def take(self, task: str, words: Sequence[str], at: int) -> None:
+    def note(self, task: str, words: Sequence[str], at: int) -> None:
         """Notes a step."""
         word = words[0]
         self.newest[task] = at

@@ -38,7 +38,7 @@ def filled(data: dict[str, object], live: str = "", connect: str = "", scripts: 
     return page
 
 
-def page_of(session: Session, stop: Callable[[], bool] = lambda: False, progress: Progress = lambda *told: None) -> tuple[str, int, int]:
+def page_of(session: Session, stop: Callable[[], bool] = lambda: False, progress: Progress = lambda *counts: None) -> tuple[str, int, int]:
     """The page of all that a session did, and how many commands and steps these were."""
     story = Story(session, stop, progress)
     return filled(story.data()), len(story.commands), len(story.steps)

@@ -20,7 +20,7 @@ def prefix_of(session: Session, count: int) -> list[str]:
 def move(past: Session, present: Session, count: int) -> None:
     """Brings a past state to so many of the oldest steps of the history."""
     there = len(past.history)
-    if count < there - FEW or past.room < FEW:
+    if count < there - FEW or past.capacity < FEW:
         past.start()
         there = 0
     wanted = prefix_of(present, count)

@@ -102,9 +102,9 @@ class Program:
             self._write(text + "---\n")
             self.ask("tasks")
         except Ended as ended:
-            told = re.match(r"taskback: line (\d+): (\w+)", ended.said)
-            if ended.status == 1 and told:
-                raise Refused(int(told[1]), told[2]) from None
+            faulty = re.match(r"taskback: line (\d+): (\w+)", ended.said)
+            if ended.status == 1 and faulty:
+                raise Refused(int(faulty[1]), faulty[2]) from None
             raise
 
     @classmethod

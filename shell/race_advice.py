@@ -47,15 +47,15 @@ class Clause:
 
     line: int
     type: str
-    place: str
+    location: str
     instead: str = ""
     # Whether the line generated several tasks.
     repeated: bool = False
 
     def __str__(self) -> str:
-        if not self.place:
+        if not self.location:
             return f"`depend {self.type}` of one cell"
-        return f"`depend {self.type} {self.place}`" + (f" in place of `depend {self.instead} {self.place}`" if self.instead else "")
+        return f"`depend {self.type} {self.location}`" + (f" in place of `depend {self.instead} {self.location}`" if self.instead else "")
 
 
 class Run:
@@ -76,7 +76,7 @@ class Run:
             touched = self.touched[task][words[-2]]
             touched.loads |= words[0] == "load"
             touched.stores |= words[0] == "store"
-            touched.line = touched.line or self.session.places.line_of(name)
+            touched.line = touched.line or self.session.positions.line_of(name)
         if words[0] in ("load", "let"):
             self._registers[task][int(words[1][1:])] = int(words[-1])
         elif words[0] == "spawn":
@@ -84,7 +84,7 @@ class Run:
             given = [int(word) for word in words[3:stop]]
             self._registers[words[1]] = given + [0] * (16 - len(given))
             items = [" ".join(words[at + 1:at + 3]) for at, word in enumerate(words) if word == "depend"]
-            line = self.session.places.line_of(name) or 0
+            line = self.session.positions.line_of(name) or 0
             self._counts[line] += 1
             self.spawned[words[1]] = Spawned(line, items, tuple(self._registers[task]))
 
@@ -103,7 +103,7 @@ class Run:
                     found.stores |= cells[cell].stores
         return found
 
-    def place_on_line(self, task: str, cell: str, line: int | None) -> str:
+    def location_on_line(self, task: str, cell: str, line: int | None) -> str:
         """How the line that generated a task can name a cell: by what the task was given, else by its number."""
         source, spawned = self.session.source, self.spawned[task]
         words = source.line(line).split(" ")
@@ -111,7 +111,7 @@ class Run:
         given = source.line(spawned.line).split(" ")
         if re.fullmatch(r"r[0-9]+", operand):
             number = int(operand[1:])
-            body = self.session.places.body.get(task, "")
+            body = self.session.positions.body.get(task, "")
             unchanged = not any(source.line(at).split(" ")[:2] in (["let", operand], ["load", operand]) for at in source.lines_of_body(body))
             parameters = int(source.line(source.bodies[body]).split(" ")[2])
             if unchanged and number < parameters:
@@ -127,61 +127,61 @@ class Run:
 class Kind:
     """The races of one pair of lines: the first of them with its number, how many there are, and what would order them.
 
-    Of a recorded run, `places` are lines of the C file.
+    Of a recorded run, `names` are lines of the C file.
     """
 
     number: int
     example: Race
     lines: tuple[int | None, int | None]
-    places: tuple[str, str]
+    names: tuple[str, str]
     count: int = 0
     clauses: list[Clause] = field(default_factory=list)
     others: list[str] = field(default_factory=list)
-    place_of: Callable[[int], str] = str
+    line_name: Callable[[int], str] = str
 
     def advice(self) -> str:
         """What would order them, in words."""
         if self.example.apart:
             return APART
-        parts = [clauses_in_words(self.clauses, self.place_of)] if self.clauses else []
+        parts = [clauses_in_words(self.clauses, self.line_name)] if self.clauses else []
         text = ", or ".join(parts + self.others[:2]) + " would order them"
         return text + (", or a `taskwait` between" if self.clauses else "")
 
-    def told(self) -> str:
+    def in_words(self) -> str:
         """The line below its example."""
         head = f"race {self.number}" if self.count == 1 else f"race {self.number}, one of {self.count:,} of these two lines"
         return f"{head}: {self.advice()}"
 
 
-def clauses_in_words(clauses: Iterable[Clause], place_of: Callable[[int], str] = str) -> str:
+def clauses_in_words(clauses: Iterable[Clause], line_name: Callable[[int], str] = str) -> str:
     """Clauses with their lines: those that are alike are named together, and so are the cells of one line.
 
-    `place_of` is what names a line: of a recorded run its line of C.
+    `line_name` is what names a line: of a recorded run its line of C.
     """
     by_kind: dict[tuple[int, str, str, bool], list[Clause]] = defaultdict(list)
     for clause in clauses:
-        by_kind[clause.line, clause.type, clause.instead, clause.place.isdigit()].append(clause)
+        by_kind[clause.line, clause.type, clause.instead, clause.location.isdigit()].append(clause)
     by_text: dict[str, list[int]] = defaultdict(list)
     for (line, *_, numbered), alike in by_kind.items():
-        together = numbered and len({clause.place for clause in alike}) > 1
+        together = numbered and len({clause.location for clause in alike}) > 1
         for text in [cells_in_words(alike)] if together else map(str, alike):
             by_text[text].append(line)
-    return " and ".join(f"{text} on {lines_in_words(sorted(set(lines)), place_of)}" for text, lines in by_text.items())
+    return " and ".join(f"{text} on {lines_in_words(sorted(set(lines)), line_name)}" for text, lines in by_text.items())
 
 
 def cells_in_words(clauses: Sequence[Clause]) -> str:
     """Clauses of one line that differ in their cells alone."""
     first = clauses[0]
-    cells = numbers_in_words(sorted({int(clause.place) for clause in clauses}))
+    cells = numbers_in_words(sorted({int(clause.location) for clause in clauses}))
     text = f"`depend {first.type}` of " + (f"each task's own cell ({cells})" if first.repeated else f"cells {cells}")
     return text + (f" in place of `depend {first.instead}`" if first.instead else "")
 
 
-def lines_in_words(lines: list[int], place_of: Callable[[int], str]) -> str:
+def lines_in_words(lines: list[int], line_name: Callable[[int], str]) -> str:
     """Rising numbers of lines; few of a recorded run with their lines of C."""
     if len(lines) > MOST_LINES:
         return f"{len(lines)} lines, {numbers_in_words(lines)},"
-    recorded = [place for place in dict.fromkeys(map(place_of, lines)) if not place.isdigit()]
+    recorded = [name for name in dict.fromkeys(map(line_name, lines)) if not name.isdigit()]
     return f"line{'s' if len(lines) > 1 else ''} {numbers_in_words(lines)}" + (f" ({', '.join(recorded)})" if recorded else "")
 
 
@@ -224,17 +224,17 @@ def clauses_for(run: Run, race: Race, pair: Sequence[str]) -> list[Clause]:
         has = own[0].split(" ")[0] if own else ""
         items.append(own[0] if own else f"{wanted} {cell}")
         if not own or (has == "in" and touched.stores):
-            place = run.place_on_line(sibling, cell, touched.line)
+            location = run.location_on_line(sibling, cell, touched.line)
             line = run.spawned[sibling].line
-            found.append(Clause(line, "inout" if has else wanted, place, has, run.is_repeated(line)))
+            found.append(Clause(line, "inout" if has else wanted, location, has, run.is_repeated(line)))
             items[-1] = f"{'inout' if has else wanted} {cell}"
     if needs_order(items[1], items[0]) != "after":
         # Both have a type that keeps no order among those that have it.
         has = items[1].split(" ")[0]
         younger = pair[1]
-        place = run.place_on_line(younger, cell, run.all_of(younger, cell, True).line)
+        location = run.location_on_line(younger, cell, run.all_of(younger, cell, True).line)
         line = run.spawned[younger].line
-        found = [Clause(line, "inout", place, has, run.is_repeated(line))]
+        found = [Clause(line, "inout", location, has, run.is_repeated(line))]
     return found
 
 
@@ -278,9 +278,9 @@ def outliving(run: Run, elder: str, younger: str, task: str) -> str:
 
 
 def add_clause(clauses: list[Clause], new: Clause) -> None:
-    """Adds a clause: what a line says of one place is said once."""
+    """Adds a clause: what a line says of one location is said once."""
     for at, clause in enumerate(clauses):
-        if (clause.line, clause.place) == (new.line, new.place):
+        if (clause.line, clause.location) == (new.line, new.location):
             if clause.type != new.type:
                 clauses[at] = replace(clause, type="inout", instead=clause.instead or new.instead)
             return
@@ -293,11 +293,11 @@ def kinds_of(session: Session, races: Sequence[Race]) -> list[Kind]:
     found: dict[tuple[object, ...], Kind] = {}
     # What is advised hangs on the tasks and the cell alone, and a loop has thousands of races of one pair of tasks.
     advised: set[tuple[int, str, str, str]] = set()
-    line_of = session.places.line_of
+    line_of = session.positions.line_of
     for number, race in enumerate(races, 1):
         lines = (line_of(race.first), line_of(race.second))
-        places = (session.source.place(lines[0]), session.source.place(lines[1]))
-        kind = found.setdefault((*places, race.over == "print", race.apart), Kind(number, race, lines, places, place_of=session.source.place))
+        names = (session.source.line_name(lines[0]), session.source.line_name(lines[1]))
+        kind = found.setdefault((*names, race.over == "print", race.apart), Kind(number, race, lines, names, line_name=session.source.line_name))
         kind.count += 1
         same = (kind.number, race.over, race.first.split("#")[0], race.second.split("#")[0])
         if same not in advised:

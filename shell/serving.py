@@ -154,13 +154,13 @@ class Handler(BaseHTTPRequestHandler):
     def look(self, kind: str, ask: Callable[[Live], object]) -> None:
         """Answers with what the session is asked for, or says why it can't be."""
         try:
-            told = self.server.answer_of(ask)
+            body = self.server.answer_of(ask)
         except ValueError as fault:
             self.answer(403, "text/plain", str(fault).encode())
         except Ended as ended:
             self.answer(503, "text/plain", str(ended).encode())
         else:
-            self.answer(200, kind, told)
+            self.answer(200, kind, body)
 
     def do_POST(self) -> None:
         """A command."""
@@ -179,10 +179,10 @@ class Handler(BaseHTTPRequestHandler):
         if not is_digits(length) or int(length) > LONGEST or self.headers.get("Content-Type") != JSON:
             return None
         try:
-            told: Any = json.loads(self.rfile.read(int(length)))
+            given: Any = json.loads(self.rfile.read(int(length)))
         except (ValueError, RecursionError):
             return None
-        command = told.get("command") if isinstance(told, dict) else None
+        command = given.get("command") if isinstance(given, dict) else None
         return command if isinstance(command, str) and "\n" not in command else None
 
     def answer(self, status: int, kind: str, body: bytes) -> None:

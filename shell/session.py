@@ -4,7 +4,7 @@ from collections.abc import Callable, Iterator, Sequence
 from typing import NamedTuple
 
 from shell.protocol import Cut, Program, is_digits, words_of
-from shell.source import SHELL_MARK, Places, Source
+from shell.source import SHELL_MARK, Positions, Source
 
 PIECE = 1000
 TOGETHER = 100
@@ -31,7 +31,7 @@ def is_of_several(words: Sequence[str]) -> bool:
 class Done(NamedTuple):
     """A command that was carried out, and the commands that do the same again (none for a view).
 
-    What several workers do may differ each time, so the steps that they took are done again, each by `step`; `ended`
+    What several workers do may differ each time, so the steps that they executed are done again, each by `step`; `ended`
     is the last line that they gave, and None for all other commands.
     """
 
@@ -47,9 +47,9 @@ class Done(NamedTuple):
 
 
 class Walked(NamedTuple):
-    """What a long run did: how many steps it took, why it ended, and whether who asked for it stopped it."""
+    """What a long run did: how many steps it executed, why it ended, and whether who asked for it stopped it."""
 
-    taken: int
+    executed: int
     why: str
     stopped: bool
 
@@ -73,7 +73,7 @@ class Session:
         self.source = source
         self.limit = limit
         self.options = list(options)
-        self.places = Places(source)
+        self.positions = Positions(source)
         self.history: dict[str, str] = {}
         self.taken_back: list[list[str]] = []
         self.log: list[Done] = []
@@ -96,10 +96,10 @@ class Session:
         self.history = {}
         self.taken_back = []
         self.entries = 1
-        self.places.forget()
+        self.positions.forget()
 
-    def beside(self) -> "Session":
-        """Another session of the same program, with nothing done, and with as much room as there can be."""
+    def another(self) -> "Session":
+        """Another session of the same program, with nothing done, and with the greatest limit."""
         return Session(self.path, self.source, GREATEST_LIMIT, self.options)
 
     @property
@@ -114,8 +114,8 @@ class Session:
         return next(reversed(self.history), None)
 
     @property
-    def room(self) -> int:
-        """How many entries the journal has room for; its first one is the opening."""
+    def capacity(self) -> int:
+        """How many entries the journal has slots for still; its first entry is the opening."""
         return (LIMIT if self.limit is None else self.limit) - self.entries
 
     def line_of(self, name: str) -> str:
@@ -142,20 +142,20 @@ class Session:
             self.log.append(self.learn(command, reply))
         return reply
 
-    def took(self, lines: Steps) -> None:
-        """Notes steps that were just taken."""
+    def note_steps(self, lines: Steps) -> None:
+        """Notes steps that were just executed."""
         self.entries += len(lines)
         for line in lines:
             name, _, did = line.partition(" ")
             self.history[name] = did
-            self.places.took(line)
+            self.positions.note(line)
 
     def lost(self, lines: Steps) -> None:
         """Notes steps that were just taken back, as lines in the order of the history."""
         self.entries += 1
         for line in reversed(lines):
             del self.history[line.split(" ")[0]]
-            self.places.took_back(line)
+            self.positions.took_back(line)
         self.taken_back.append(list(lines))
 
     def learn(self, command: str, reply: list[str]) -> Done:
@@ -163,10 +163,10 @@ class Session:
         words = words_of(command)
         word = words[0] if words else ""
         if word == "step" and is_step(reply[0]):
-            self.took(reply)
+            self.note_steps(reply)
             return Done(command, (command,))
         if word in ("run", "go") and reply[-1].startswith("ran "):
-            self.took(reply[:-1])
+            self.note_steps(reply[:-1])
             several = is_of_several(words)
             done = gone(" ".join(words[:-1]), int(words[-1]), reply[-1], reply[:-1] if several else None)
             return done if several else done._replace(command=command)
@@ -194,30 +194,30 @@ class Session:
             piece: int = PIECE) -> Walked:
         """Many steps, asked for in pieces, and noted as one command.
 
-        Several workers first note the whole journal, so their pieces get longer with what was taken. `show` is given
+        Several workers first note the whole journal, so their pieces get longer with what was executed. `show` is given
         the steps of each piece; `stop`, asked with them, ends the run early.
         """
-        taken = 0
+        executed = 0
         steps: list[str] | None = [] if is_of_several(words_of(f"{prefix} {count}")) else None
         while True:
-            most = piece if steps is None or piece == 1 else piece * max(1, taken // (4 * piece))
+            most = piece if steps is None or piece == 1 else piece * max(1, executed // (4 * piece))
             try:
-                reply = self.program.ask(f"{prefix} {min(count - taken, most)}")
+                reply = self.program.ask(f"{prefix} {min(count - executed, most)}")
             except Cut:
-                self.log.append(gone(prefix, taken, f"ran {taken} limit", steps))
+                self.log.append(gone(prefix, executed, f"ran {executed} limit", steps))
                 raise
             why = reply.pop().split(" ")[2]
-            self.took(reply)
+            self.note_steps(reply)
             show(reply)
-            taken += len(reply)
+            executed += len(reply)
             if steps is not None:
                 steps += reply
             # Asked of each step, also of the last one: a breakpoint may be there.
-            stopped = bool(reply) and stop(reply) and taken < count and why == "limit"
-            if stopped or why != "limit" or taken >= count:
+            stopped = bool(reply) and stop(reply) and executed < count and why == "limit"
+            if stopped or why != "limit" or executed >= count:
                 break
-        self.log.append(gone(prefix, taken if stopped else count, f"ran {taken} {why}", steps))
-        return Walked(taken, why, stopped)
+        self.log.append(gone(prefix, executed if stopped else count, f"ran {executed} {why}", steps))
+        return Walked(executed, why, stopped)
 
     def repeat(self, done: Done) -> list[str]:
         """Does again what was done, with the same steps, and notes it; returns the reply that it gave."""
@@ -251,7 +251,7 @@ class Session:
         self.log, self.taken_back = log, taken_back
 
     def replay(self, limit: int) -> bool:
-        """Starts with another limit and does again what was done; returns whether all had room."""
+        """Starts with another limit and does again what was done; returns whether the journal had slots for all."""
         before, wanted = (self.limit, self.log, self.taken_back), dict(self.history)
         self.limit = limit
         self.do_again(before[1])
@@ -263,7 +263,7 @@ class Session:
         return fits
 
     def retake(self, lines: Steps) -> int:
-        """Takes these steps in this order, each by `step`, up to one that isn't as its line says; how many it took."""
+        """Executes these steps in this order, each by `step`, up to one that isn't as its line says; how many it executed."""
         for at in range(0, len(lines), TOGETHER):
             part = lines[at:at + TOGETHER]
             commands = [f"step {line.split('#')[0]}" for line in part]

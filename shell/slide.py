@@ -24,7 +24,7 @@ TOP, BOTTOM, MARGIN = 84, 110, 40
 FOLDED = ("let", "test")
 # A step that is narrower than this, in pixels, has no tick.
 LEAST_WIDE = 0.15
-# More arrows of a kind than these could not be told apart: every second is drawn, or every third, over the whole picture.
+# More arrows of a kind than these nobody could distinguish: every second is drawn, or every third, over the whole picture.
 MOST_ARROWS = 120
 LONGEST_NAME, LONGEST_WORDS = 14, 16
 STYLE = (f"text{{font:{LETTER}px ui-monospace,Menlo,Consolas,'DejaVu Sans Mono',monospace;fill:{INK}}}.title{{font-size:30px;font-weight:bold}}"
@@ -174,9 +174,9 @@ class Slide:
                 break
             parts.append(f'<path {look} d="M{x:.0f} {HIGH - 66} h30"/><text x="{x + 40:.0f}" y="{HIGH - 59}">{escape(text)}</text>')
             x += wide
-        return parts + [f'<text class="race" x="{MARGIN}" y="{HIGH - 24}" style="fill:{RED}">{escape(text)}</text>' for text in self.told()]
+        return parts + [f'<text class="race" x="{MARGIN}" y="{HIGH - 24}" style="fill:{RED}">{escape(text)}</text>' for text in self.races_in_words()]
 
-    def told(self) -> list[str]:
+    def races_in_words(self) -> list[str]:
         """The races by pairs of lines, as many as a line holds."""
         text = "✕ " + "; ".join(pairs_of(self.lanes))
         return [cut(text, int((WIDE - 2 * MARGIN) / LETTER_WIDE))] if self.lanes.races else []

@@ -1,4 +1,4 @@
-"""The program's text: which line a task is at, and at which line each step was taken."""
+"""The program's text: which line a task is at, and at which line each step was executed."""
 
 import os
 import re
@@ -41,7 +41,7 @@ def unmarked(line: str) -> str:
     return line.removeprefix(SHELL_MARK)
 
 
-# A place in a recorded run's comment, as `sum.c:12`.
+# A line of C in a recorded run's comment, as `sum.c:12`.
 RECORDED = re.compile(r"([^\s:]+\.(?:c|cc|cpp|cxx|h|hpp)):([0-9]+)\b")
 
 
@@ -112,18 +112,18 @@ class Source:
         """Whether this is the session of a recorded run: whether a line names one of C."""
         return any(self.recorded(number) for number in range(1, len(self.lines) + 1))
 
-    def place(self, number: int | None) -> str:
-        """The number of a line; of a recorded run, the C file and its line: lines that are one line of C have one place."""
+    def line_name(self, number: int | None) -> str:
+        """The number of a line; of a recorded run, the C file and its line: lines that are one line of C have one name."""
         found = self.recorded(number)
         return f"{found[0]}:{found[1]}" if found else str(number)
 
-    def steps_at(self, place: str) -> list[int]:
-        """The lines that a step is taken at, and that have this number, or this place of a C file."""
-        return [number for number in range(1, len(self.lines) + 1) if place in (str(number), self.place(number)) and self.is_step(number)]
+    def steps_at(self, name: str) -> list[int]:
+        """The lines at which a step is executed, and that have this number, or this line of a C file."""
+        return [number for number in range(1, len(self.lines) + 1) if name in (str(number), self.line_name(number)) and self.is_step(number)]
 
     def numbered(self, number: int) -> str:
         """A line by its number: `line 4`; of a recorded run with the line of C, `line 4 (sum.c:12)`."""
-        return f"line {number}" + (f" ({self.place(number)})" if self.recorded(number) else "")
+        return f"line {number}" + (f" ({self.line_name(number)})" if self.recorded(number) else "")
 
     def shown(self, number: int) -> str:
         """A line as it is shown with a step; that of a recorded run with what it was in C."""
@@ -139,7 +139,7 @@ class Source:
         return range(first, self._end.get(first, len(self.lines)) + 1)
 
     def is_step(self, number: int) -> bool:
-        """Whether a step can be taken at this line."""
+        """Whether a step can be executed at this line."""
         word = self.line(number).split(" ")[0]
         if word == "end":
             return self._opener.get(number, (0, ""))[1] in ("body", "taskgroup")
@@ -155,7 +155,7 @@ class Source:
         return [(opener, end) for opener, end in self._end.items() if self.line(opener).startswith("while ")]
 
     def _settle(self, number: int) -> int | None:
-        """The line of the next statement from here: an `end` that takes no step is passed by."""
+        """The line of the next statement from here: an `end` at which no step is executed is passed by."""
         while number <= len(self.lines):
             word = self.line(number).split(" ")[0]
             opener = self._opener.get(number, (0, ""))
@@ -179,8 +179,8 @@ class Source:
         return self._after[number, fails]
 
 
-class Places:
-    """Where the tasks are, and the lines of the steps that were taken."""
+class Positions:
+    """Where the tasks are, and the lines of the steps that were executed."""
 
     def __init__(self, source: Source) -> None:
         self.source = source
@@ -191,7 +191,7 @@ class Places:
         self.position: dict[str, int | None] = {"0": self.source.bodies.get("main")}
         self.body: dict[str, str] = {"0": "main"}
         self.spawned: dict[str, int | None] = {}
-        self._taken: dict[str, list[int | None]] = {}
+        self._executed: dict[str, list[int | None]] = {}
 
     def learn(self, tasks: Sequence[str]) -> None:
         """Takes the positions from a reply to `tasks`."""
@@ -203,13 +203,13 @@ class Places:
             elif words[2] == "running":
                 self.position[words[0]] = int(words[3])
 
-    def took(self, step: str) -> None:
-        """Notes a step that was just taken."""
+    def note(self, step: str) -> None:
+        """Notes a step that was just executed."""
         name, *did = step.split(" ")
         task, number = name.split("#")
         line = self.position.get(task)
-        taken = self._taken.setdefault(task, [])
-        taken[int(number) - 1:] = [line]
+        executed = self._executed.setdefault(task, [])
+        executed[int(number) - 1:] = [line]
         self.position[task] = self.source.after(line, did)
         if did[0] == "spawn":
             self.position[did[1]] = self.source.bodies.get(did[2])
@@ -225,9 +225,9 @@ class Places:
             self.position.pop(did[1], None)
 
     def line_of(self, step: str) -> int | None:
-        """The line at which a step was taken; None where that isn't known."""
+        """The line at which a step was executed; None where that isn't known."""
         task, _, number = step.partition("#")
-        taken = self._taken.get(task, [])
-        if is_digits(number) and 0 < int(number) <= len(taken):
-            return taken[int(number) - 1]
+        executed = self._executed.get(task, [])
+        if is_digits(number) and 0 < int(number) <= len(executed):
+            return executed[int(number) - 1]
         return None

@@ -1,11 +1,11 @@
-"""Breakpoints of the shell's own, at lines and with conditions, and watched numbers; and which step meets which."""
+"""Breakpoints of the shell's own, at lines and with conditions, and watched values; and which step meets which."""
 
 from collections.abc import Callable
 from dataclasses import dataclass
 
 from shell.expressions import Expression, Unknown, parsed
 from shell.session import Session
-from shell.source import Places, Source
+from shell.source import Positions, Source
 from shell.values import Values
 
 
@@ -19,19 +19,19 @@ class Where:
     def __str__(self) -> str:
         return f"{self.kind} {self.what}".rstrip()
 
-    def meets(self, line: str, places: Places) -> bool:
-        """Whether a step that was just taken is one of these."""
+    def meets(self, line: str, positions: Positions) -> bool:
+        """Whether a step that was just executed is one of these."""
         name, *did = line.split(" ")
         task = name.split("#")[0]
         if self.kind == "line":
-            number = places.line_of(name)
-            return self.what in (str(number), places.source.place(number))
+            number = positions.line_of(name)
+            return self.what in (str(number), positions.source.line_name(number))
         if self.kind == "task":
             return task == self.what
         if self.kind == "cell":
             return did[0] in ("load", "store") and did[-2] == self.what
         if self.kind == "body":
-            return did[0] == "start" and places.body.get(task) == self.what
+            return did[0] == "start" and positions.body.get(task) == self.what
         return did[0] == self.kind
 
 
@@ -57,8 +57,8 @@ class Breakpoint:
         return f"break {self}"
 
     def meets(self, line: str, session: Session) -> str | None:
-        """What is said where a step that was just taken meets it."""
-        if not self.where.meets(line, session.places):
+        """What is said where a step that was just executed meets it."""
+        if not self.where.meets(line, session.positions):
             return None
         if self.condition is None:
             return str(self)
@@ -94,7 +94,7 @@ class Watchpoint:
             return None
 
     def meets(self, line: str, session: Session) -> str | None:
-        """What is said where a step that was just taken, or taken back, changed it."""
+        """What is said where a step that was just executed, or taken back, changed it."""
         name, did = line.split(" ", 1)
         reads = self.expression.reads(self.task)
         if name.split("#")[0] not in reads.tasks and not (reads.cells and did.startswith("store ")):
@@ -126,7 +126,7 @@ class Stops:
         return self.add(stop) if known is None else f"s{known}"
 
     def add_watch(self, text: str, task: str, session: Session) -> tuple[str, int | None]:
-        """A watched number, and what it is now; raises Unreadable where the text is no expression."""
+        """A watched value, and what it is now; raises Unreadable where the text is no expression."""
         expression = parsed(text)
         if expression.reads("") != expression.reads(task):
             text = f"{text} of {task}" if " " not in text else f"({text}) of {task}"
@@ -144,7 +144,7 @@ class Stops:
     def lines(self, source: Source) -> set[int]:
         """The lines at which one stops."""
         wanted = [stop.where.what for stop in self.there.values() if isinstance(stop, Breakpoint) and stop.where.kind == "line"]
-        return {number for place in wanted for number in source.steps_at(place)}
+        return {number for name in wanted for number in source.steps_at(name)}
 
     def refresh(self, session: Session) -> None:
         """Looks at what is watched, as it is before a run begins."""
@@ -158,12 +158,12 @@ class Stops:
         return [f"s{number}: {text}" for number, stop in there.items() if (text := stop.meets(line, session))]
 
     def changed(self, line: str, session: Session) -> list[str]:
-        """What is said of the watched numbers that a step changed which was just taken, or taken back."""
+        """What is said of the watched values that a step changed which was just executed, or taken back."""
         watched = {number: stop for number, stop in self.there.items() if isinstance(stop, Watchpoint)}
         return [f"s{number}: {text}" for number, stop in watched.items() if (text := stop.meets(line, session))]
 
     def met(self, line: str, session: Session) -> list[str]:
-        """What is said of all that a step that was just taken meets."""
+        """What is said of all that a step that was just executed meets."""
         return self.at_step(line, session) + self.changed(line, session)
 
     def commands(self) -> list[str]:

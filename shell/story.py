@@ -72,18 +72,18 @@ class Cells:
         self.first = {words[1]: words[2] for words in map(words_of, source.lines) if words[:1] == ["cell"] and len(words) == 3}
         self.first = {str(int(cell)): str(int(number)) for cell, number in self.first.items()}
         self.stores: dict[str, dict[str, str]] = {}
-        self.told: dict[str, list[list[Any]]] = {cell: [[0, number]] for cell, number in self.first.items() if number != "0"}
+        self.values: dict[str, list[list[Any]]] = {cell: [[0, number]] for cell, number in self.first.items() if number != "0"}
 
     def note(self, cell: str, moment: int) -> None:
         """A cell may have changed."""
         stores = self.stores.get(cell)
         number = stores[next(reversed(stores))] if stores else self.first.get(cell, "0")
-        told = self.told.setdefault(cell, [])
-        if (told[-1][1] if told else "0") != number:
-            told.append([moment, number])
+        values = self.values.setdefault(cell, [])
+        if (values[-1][1] if values else "0") != number:
+            values.append([moment, number])
 
-    def took(self, name: str, words: list[str], moment: int) -> None:
-        """A store that was taken."""
+    def note_store(self, name: str, words: list[str], moment: int) -> None:
+        """A store that was executed."""
         self.stores.setdefault(words[1], {})[name] = words[2]
         self.note(words[1], moment)
 
@@ -96,7 +96,7 @@ class Cells:
 class Story:
     """Plays commands again, and notes when each step, task, number and line of output came and went."""
 
-    def __init__(self, session: Session, stop: Callable[[], bool] = lambda: False, progress: Progress = lambda *told: None) -> None:
+    def __init__(self, session: Session, stop: Callable[[], bool] = lambda: False, progress: Progress = lambda *counts: None) -> None:
         # A second program does it all again, so the one that is used stays as it is.
         self.session = Session(session.path, session.source, session.limit, session.options)
         self.facts = Facts(self.session, stop)
@@ -140,7 +140,7 @@ class Story:
                 self.lost(self.session.taken_back[-1])
             elif word in ("step", "run", "go"):
                 for line in filter(is_step, lines):
-                    self.took(line)
+                    self.note_step(line)
         shown = reply[:SHOWN_LINES] + (["... more lines"] if len(reply) > SHOWN_LINES else [])
         self.commands.append([done.command, shown, self.moment])
 
@@ -164,17 +164,17 @@ class Story:
         else:
             yield self.session.repeat(done)
 
-    def took(self, line: str) -> None:
-        """A step that was taken."""
+    def note_step(self, line: str) -> None:
+        """A step that was executed."""
         name, _, did = line.partition(" ")
         words, task = did.split(" "), name.split("#")[0]
         self.moment += 1
         self.progress(self.moment, "steps", self.total)
         self.history[name] = len(self.steps)
         self.fresh.append(name)
-        self.steps.append(StoryStep(name, did, self.session.places.line_of(name), self.moment))
+        self.steps.append(StoryStep(name, did, self.session.positions.line_of(name), self.moment))
         if words[0] == "store":
-            self.cells.took(name, words, self.moment)
+            self.cells.note_store(name, words, self.moment)
         elif words[0] == "print":
             self.out.append([self.moment, len(self.prints), words[1:]])
             self.prints[name] = words[1]
@@ -214,20 +214,20 @@ class Story:
         """A task that was generated; its order doesn't change while it is there."""
         parent = name.rpartition(".")[0]
         order = self.ordering.add(parent, name, items) if parent else Order()
-        told = StoryTask(Task(name, body, "pending", None, order.before, order.apart, items), len(self.tasks), step, self.moment)
-        told.states.append([self.moment, "pending", None, ""])
-        self.there[name] = told
-        self.tasks.append(told)
+        made = StoryTask(Task(name, body, "pending", None, order.before, order.apart, items), len(self.tasks), step, self.moment)
+        made.states.append([self.moment, "pending", None, ""])
+        self.there[name] = made
+        self.tasks.append(made)
 
     def note_state(self, name: str, state: str) -> None:
         """What a task does now."""
-        line = self.session.places.position.get(name) if state == "running" else None
-        told = [self.moment, state, line, ""]
+        line = self.session.positions.position.get(name) if state == "running" else None
+        moment = [self.moment, state, line, ""]
         states = self.there[name].states
         if states[-1][0] == self.moment:
-            states[-1] = told
-        elif states[-1][1:3] != told[1:3]:
-            states.append(told)
+            states[-1] = moment
+        elif states[-1][1:3] != moment[1:3]:
+            states.append(moment)
 
     def look(self, last: bool = False) -> None:
         """Who can step, and who waits for whom."""
@@ -235,32 +235,32 @@ class Story:
             return
         why = {name: "can step" for name in self.facts.lines("ready")}
         why.update((name, f"{word} {other}") for name, word, other in (line.split(" ") for line in self.facts.lines("waits")))
-        for name, told in self.there.items():
-            newest = told.states[-1]
+        for name, there in self.there.items():
+            newest = there.states[-1]
             if newest[3] != why.get(name, ""):
                 if newest[0] != self.moment:
                     newest = [self.moment, *newest[1:]]
-                    told.states.append(newest)
+                    there.states.append(newest)
                 newest[3] = why.get(name, "")
 
     def orders(self) -> None:
         """For each task the dependences that no other implies, and its exclusions, with their clauses."""
         named: dict[str, list[StoryTask]] = {}
         reach: list[int] = []
-        for told in self.tasks:
-            def meets(name: str, at: int = told.born) -> StoryTask:
+        for drawn in self.tasks:
+            def meets(name: str, at: int = drawn.born) -> StoryTask:
                 """The task of this name that is there at the same time."""
                 return next(other for other in reversed(named[name]) if other.born <= at and (other.died is None or other.died > at))
-            named.setdefault(told.task.name, []).append(told)
-            near = [meets(name) for name in told.task.before]
+            named.setdefault(drawn.task.name, []).append(drawn)
+            elders = [meets(name) for name in drawn.task.before]
             # All that come before through others, as bits; earlier siblings are done first.
             through = 0
-            for other in near:
+            for other in elders:
                 through |= reach[other.index]
-            told.before = [[other.index, label_of(told.task, other.task, "after")] for other in near if not through >> other.index & 1]
-            told.apart = [[meets(name).index, label_of(told.task, meets(name).task, "apart")]
-                          for name in told.task.apart if by_name(name) < by_name(told.task.name)]
-            reach.append(through | sum(1 << other.index for other in near))
+            drawn.before = [[other.index, label_of(drawn.task, other.task, "after")] for other in elders if not through >> other.index & 1]
+            drawn.apart = [[meets(name).index, label_of(drawn.task, meets(name).task, "apart")]
+                           for name in drawn.task.apart if by_name(name) < by_name(drawn.task.name)]
+            reach.append(through | sum(1 << other.index for other in elders))
 
     # Why
 
@@ -289,11 +289,11 @@ class Story:
 
     def work_out_needs(self) -> None:
         """The needs of the new steps from the lines of the history, without the program's help."""
-        places, fresh, needs = list(self.history.values()), set(self.fresh), Needs()
+        indexes, fresh, needs = list(self.history.values()), set(self.fresh), Needs()
         for name, at in self.history.items():
             found = needs.direct(name, self.steps[at].did)
             if name in fresh:
-                self.steps[at].causes = [(kind, places[place]) for kind, place in found]
+                self.steps[at].causes = [(kind, indexes[index]) for kind, index in found]
 
     def note_races(self, races: list[Race] | None, last: bool) -> None:
         """The races of the new steps, and what would order them: of all races where a kind of them is new, and at the end."""
@@ -307,8 +307,8 @@ class Story:
 
     def key_of(self, race: Race) -> str:
         """What the page calls a kind of races."""
-        places = [self.session.source.place(self.steps[self.history[name]].line) for name in (race.first, race.second)]
-        return "|".join([*places, str(race.over == "print").lower(), str(race.apart).lower()])
+        names = [self.session.source.line_name(self.steps[self.history[name]].line) for name in (race.first, race.second)]
+        return "|".join([*names, str(race.over == "print").lower(), str(race.apart).lower()])
 
     def data(self) -> dict[str, object]:
         """All of it, as the page takes it."""
@@ -323,4 +323,4 @@ class Story:
         source = self.session.source
         return {"title": source.name, "source": source.lines, "commands": self.commands, "moments": self.moment, "leftOut": left_out,
                 "steps": [step.row() for step in self.steps], "tasks": [task.row() for task in self.tasks],
-                "cells": self.cells.told, "out": self.out, "hints": self.hints}
+                "cells": self.cells.values, "out": self.out, "hints": self.hints}

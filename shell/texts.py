@@ -39,8 +39,8 @@ def error_words(command: str, kind: str, workers: int, bodies: Sequence[str] = (
 
 def needs_order(new: str, old: str) -> str | None:
     """What a new item makes of an earlier one: `after`, `apart`, or None where nothing follows."""
-    (kind, cell), (other, place) = new.split(" "), old.split(" ")
-    if cell != place and "all" not in (cell, place):
+    (kind, cell), (other, name) = new.split(" "), old.split(" ")
+    if cell != name and "all" not in (cell, name):
         return None
     if kind == other and kind in ("in", "inoutset"):
         return None
@@ -75,7 +75,7 @@ def no_such_step(words: Sequence[str], session: Session) -> str:
             return f"the program has no cell {subject}: {there}" if cells else "the program has no cells"
         return f"nothing was stored to cell {subject}"
     task = subject.partition("#")[0]
-    if task not in session.places.position:
+    if task not in session.positions.position:
         return f"task {task} hasn't been generated"
     if name == "rolltask":
         return f"task {task} hasn't started"
@@ -84,9 +84,9 @@ def no_such_step(words: Sequence[str], session: Session) -> str:
 
 def refusal_words(command: str, reply: str, session: Session) -> str:
     """A refusal in words, without the clauses."""
-    words, told = words_of(command), reply.split(" ")
+    words, parts = words_of(command), reply.split(" ")
     subject = words[1] if len(words) > 1 else ""
-    name, other = told[2], told[3] if len(told) > 3 else ""
+    name, other = parts[2], parts[3] if len(parts) > 3 else ""
     if name == "NoSuchStep":
         return no_such_step(words, session)
     return {
@@ -94,8 +94,8 @@ def refusal_words(command: str, reply: str, session: Session) -> str:
         "Ended": f"{subject} has ended",
         "Waiting": f"{subject} waits for {other}",
         "Excluded": f"{subject} can't start while {other} is under way",
-        "Children": f"{subject} stands at a taskwait, and its child {other} hasn't ended",
-        "Group": f"{subject} stands at the end of a taskgroup, and {other} hasn't ended",
+        "Children": f"{subject} is at a taskwait, and its child {other} hasn't ended",
+        "Group": f"{subject} is at the end of a taskgroup, and {other} hasn't ended",
         "Undeferred": f"{subject} waits for its undeferred child {other}",
         "Full": full_words(session),
         "Needed": f"{other} needs it; `roll {subject}` takes it back with all that need it",
@@ -109,7 +109,7 @@ def refusal_words(command: str, reply: str, session: Session) -> str:
 def cause_words(line: str, step: str, wait_line: int | None) -> str:
     """Why a step needs the one of this line, `KIND: LINE`; `wait_line` is the line of the step's own statement.
 
-    What clauses say of two tasks isn't told here.
+    What clauses say of two tasks isn't said here.
     """
     kind, did = line.split(": ", 1)
     task, other = step.split("#")[0], did.split("#")[0]

@@ -60,4 +60,4 @@ class Values:
             return int(words[-1])
         if name == "cell" and word in ("load", "store"):
             return int(words[-2])
-        raise Unknown(f"this step has no {name}" if words else f"`{name}` is that of a step: it stands in the condition of a breakpoint")
+        raise Unknown(f"this step has no {name}" if words else f"`{name}` is that of a step: it is for the condition of a breakpoint")

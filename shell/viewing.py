@@ -30,13 +30,13 @@ class Viewing(Group):
             return
         races = [race_of(line) for line in reply[1:] if is_step(line)]
         kinds = kinds_of(self.session, races)
-        told = {kind.number: kind.told() for kind in kinds}
+        advice = {kind.number: kind.in_words() for kind in kinds}
         self.shell.show_line(reply[0])
-        numbers = list(range(1, len(reply)) if self.console.whole else told)
+        numbers = list(range(1, len(reply)) if self.console.whole else advice)
         for number, line in zip(numbers, self.shell.up_to_interrupt([reply[number] for number in numbers])):
             self.shell.show_line(line)
-            if number in told:
-                self.note(told[number])
+            if number in advice:
+                self.note(advice[number])
         if len(kinds) < len(races):
             self.note(f"{counted(len(races), 'race')} of {counted(len(kinds), 'pair')} of lines; `flip N` shows both outcomes of race N")
 
@@ -47,7 +47,7 @@ class Viewing(Group):
         for line in self.shell.up_to_interrupt(reply):
             self.shell.show_line(line)
             if ": " in line:
-                text = texts.cause_words(line, words[0], self.session.places.line_of(words[0]))
+                text = texts.cause_words(line, words[0], self.session.positions.line_of(words[0]))
                 kind, other = line.split("#")[0].split(": ")
                 if kind in ("before", "apart") and not self.console.exact:
                     text += self.shell.clauses(words[0].split("#")[0], other)
@@ -82,12 +82,12 @@ class Viewing(Group):
 
     def do_list(self, words: Words) -> None:
         """The source around a task, a line or a body, with marks where tasks are."""
-        source, places = self.session.source, self.session.places
+        source, positions = self.session.source, self.session.positions
         middle, count = None, len(source.lines)
         if words and is_digits(words[0]) and words[0] != "0":
             middle = int(words[0])
         elif words:
-            middle = source.bodies.get(words[0]) or places.position.get(words[0])
+            middle = source.bodies.get(words[0]) or positions.position.get(words[0])
             if middle is None:
                 self.refuse(f"{words[0]} is at no line")
                 return
@@ -96,7 +96,7 @@ class Viewing(Group):
             return
         first, last = (1, count) if middle is None else (max(1, middle - 5), min(count, middle + 5))
         at: dict[int, list[str]] = {}
-        for task, number in places.position.items():
+        for task, number in positions.position.items():
             if number is not None:
                 at.setdefault(number, []).append(task)
         stops = self.shell.stops.lines(source)

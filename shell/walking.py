@@ -1,4 +1,4 @@
-"""The commands that take steps: many at once, of one task, and in any order."""
+"""The commands that execute steps: many at once, of one task, and in any order."""
 
 from __future__ import annotations
 
@@ -27,20 +27,20 @@ class Shower:
 
     def __init__(self, group: Group, verbose: bool) -> None:
         self.group = group
-        self.room: float = float("inf") if verbose or group.console.whole else max(LEAST_SHOWN, SCREENS * (group.console.rows() or ROWS))
-        self.taken = 0
+        self.most: float = float("inf") if verbose or group.console.whole else max(LEAST_SHOWN, SCREENS * (group.console.rows() or ROWS))
+        self.executed = 0
         self.hidden = 0
         self.last: deque[str] = deque(maxlen=LAST_SHOWN)
 
     def __call__(self, steps: Steps) -> None:
         """Some more steps."""
-        shown = steps[:max(0, int(min(len(steps), self.room - self.taken)))]
+        shown = steps[:max(0, int(min(len(steps), self.most - self.executed)))]
         self.group.shell.show(shown)
-        self.taken += len(steps)
+        self.executed += len(steps)
         self.hidden += len(steps) - len(shown)
         self.last.extend(steps[len(shown):])
         if self.hidden:
-            self.group.console.progress(self.taken, "steps")
+            self.group.console.progress(self.executed, "steps")
 
     def end(self) -> None:
         """The run is over."""
@@ -56,7 +56,7 @@ def options_of(words: Words) -> tuple[bool, list[str]]:
 
 
 class Walking(Group):
-    """Commands that take steps."""
+    """Commands that execute steps."""
 
     def __init__(self, shell: Host) -> None:
         super().__init__(shell)
@@ -76,20 +76,20 @@ class Walking(Group):
             shower(steps)
             if steps:
                 self.shell.focus = task_of(steps[-1])
-        taken, why, _ = self.session.run(prefix, count, show, ends, piece)
+        executed, why, _ = self.session.run(prefix, count, show, ends, piece)
         shower.end()
-        self.say(f"ran {taken} {ended or why}")
-        self.shell.explain(prefix, f"ran {taken} {why}")
+        self.say(f"ran {executed} {ended or why}")
+        self.shell.explain(prefix, f"ran {executed} {why}")
         if why == "break" and not self.console.exact:
-            self.shell.breaking.tell_met(self.session.newest)
-        if not taken and why == "done" and self.session.history:
+            self.shell.breaking.report_met(self.session.newest)
+        if not executed and why == "done" and self.session.history:
             self.note("no task can step: `waits` says for whom they wait" if len(self.session.view("waits")) > 1 else
                       "all tasks are over; `restart` starts anew, and `rc` goes back")
         if self.interrupted:
             self.note(f"stopped by {self.console.stopper}; the session goes on")
 
     def one_step(self, task: str) -> bool:
-        """One step of a task; returns whether it was taken."""
+        """One step of a task; returns whether it was executed."""
         reply = self.shell.send(f"step {task}")
         if is_step(reply[0]):
             self.shell.focus = task
@@ -130,9 +130,9 @@ class Walking(Group):
             self.stopping("go 1", count, verbose)
         else:
             self.walk("run", count, verbose=verbose)
-            self.tell_of_breakpoints()
+            self.report_breakpoints()
 
-    def tell_of_breakpoints(self) -> None:
+    def report_breakpoints(self) -> None:
         """Says once, where there are breakpoints, that `run` has passed by them."""
         if not self.told_of_breakpoints and not self.console.exact and (self.shell.stops.there or len(self.session.view("breaks")) > 1):
             self.told_of_breakpoints = True
@@ -172,11 +172,11 @@ class Walking(Group):
             self.wrong("finish")
             return
         while not self.interrupted and self.one_step(task):
-            if self.session.places.position.get(task) is None:
+            if self.session.positions.position.get(task) is None:
                 return
 
     def do_until(self, words: Words) -> None:
-        """Runs until a step is taken."""
+        """Runs until a step is executed."""
         task, _, number = words[0].partition("#") if len(words) == 1 else ("", "", "")
         if len(words) == 1 and is_digits(words[0]):
             self.fail(f"until wants a step, as 0.2#4; `break line {words[0]}` and `go` stop at a line")

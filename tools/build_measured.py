@@ -8,7 +8,7 @@ NAME is the program's crate: `taskback` where none is named, or `taskcheck`.
 `rt try` compiles a program with a check at each step that a proof would spare it, fills what is
 declared before it is written, and follows no hints on inlining. Here the checks and the fillings are
 taken out of the compiler's input, the functions of this repository and of the kit get the hints that
-stand in their sources, and the whole is compiled as a proved program is. What this builds stops at
+are in their sources, and the whole is compiled as a proved program is. What this builds stops at
 no fault, so it is to be measured and not to be trusted.
 """
 import glob
@@ -32,7 +32,7 @@ Hints = dict[tuple[str, str], set[str]]
 
 
 def hints_of(folders: Sequence[str]) -> Hints:
-    """The hints that stand at functions of these sources, by the path of the module and the function's name."""
+    """The hints at functions of these sources, by the path of the module and the function's name."""
     found: Hints = {}
     for folder in folders:
         for file in glob.glob(os.path.join(folder, '*', 'src', '**', '*.rt'), recursive=True):
@@ -48,7 +48,7 @@ def hints_of(folders: Sequence[str]) -> Hints:
 
 
 def hints_at(found: Hints, symbol: str) -> Iterable[str]:
-    """The hints of a function of the program. A method may stand in another file than its type does."""
+    """The hints of a function of the program. A method may be in another file than its type."""
     parts = re.sub(r'::<#?[^>]*>', '', symbol).split('::')
     for end in range(len(parts) - 1, 0, -1):
         hints = found.get(('::'.join(parts[:end]), parts[-1]))
@@ -98,8 +98,8 @@ def main(words: list[str]) -> int:
                 new.writelines(rewritten(old, found))
             unproved.compiled(text, os.path.abspath(words[0]), '-O3')
         except (OSError, subprocess.CalledProcessError) as fault:
-            with open(log, errors='replace') as told:
-                print(told.read() + 'build_measured: %s' % fault, file=sys.stderr)
+            with open(log, errors='replace') as output:
+                print(output.read() + 'build_measured: %s' % fault, file=sys.stderr)
             return 1
     return 0
 

@@ -20,7 +20,7 @@ import sys
 TOP = os.path.dirname(os.path.dirname(os.path.abspath(__file__)))
 # Documents whose every name is checked. Of the others only the links are.
 NAMING = ["PROVED", "DEFINITIONS", "GATE", "ARCHITECTURE", "DECISIONS", "CAUSAL_CONSISTENCY", "RACES", "CONTRIBUTING", "GLOSSARY"]
-# Words of the languages, of libraries, and of commands beside the program.
+# Words of the languages, of libraries, and of commands other than the program.
 KNOWN = set("""
     requires ensures ghost use pub fn match let if else while unreachable malloc smallvec indexmap slab once_cell clap thiserror itoa arrayvec
     OnceBox OnceLock Vec Option Result Ok Err None Some Global AllocError Display From Rc std Mutex SmallVec IndexMap
@@ -111,7 +111,7 @@ class Crates:
             self.contracts.setdefault(crate, []).extend(found)
             self.facts.setdefault(crate, set()).update(facts)
         if is_source:
-            # words of commands and replies stand in the sources as texts
+            # words of commands and replies are texts in the sources
             for said in re.findall(r'"((?:[^"\\]|\\.)*)"', text):
                 self.names |= set(re.findall(r"[A-Za-z_]+", said))
 
@@ -133,7 +133,7 @@ def anchors(path: str) -> set[str]:
 
 
 class Check:
-    """Counts what was looked at, and tells what isn't there."""
+    """Counts what was looked at, and reports what isn't there."""
 
     def __init__(self) -> None:
         self.crates, self.words = Crates(), words_of_the_notation() | KNOWN
@@ -183,7 +183,7 @@ class Check:
                     self.fault(page, number, f"nothing is named `{part}`")
 
     def is_named(self, part: str) -> bool:
-        """Whether the name is declared or known; one that begins or ends with a dash stands for names that end or begin so."""
+        """Whether the name is declared or known; one that begins or ends with a dash is for names that end or begin so."""
         if part.endswith("_"):
             return any(it.startswith(part) for it in self.crates.names)
         return part in self.crates.names or part in self.words or part.startswith("_") and any(it.endswith(part) for it in self.crates.names)

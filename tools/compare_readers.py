@@ -101,15 +101,15 @@ class Text:
 
     # ---- faults
 
-    def places(self, words: Sequence[str], wanted: Callable[[str], bool]) -> list[int]:
+    def indexes(self, words: Sequence[str], wanted: Callable[[str], bool]) -> list[int]:
         return [at for at in range(1, len(words)) if wanted(words[at])]
 
     def replace(self, words: list[str], wanted: Callable[[str], bool], others: Sequence[str]) -> bool:
-        """Puts one of the others into some place whose word is wanted; whether there was one."""
-        places = self.places(words, wanted)
-        if places:
-            words[self.r.choice(places)] = self.r.choice(others)
-        return bool(places)
+        """Puts one of the others at some index whose word is wanted; whether there was one."""
+        indexes = self.indexes(words, wanted)
+        if indexes:
+            words[self.r.choice(indexes)] = self.r.choice(others)
+        return bool(indexes)
 
     def spoil_number(self, words: list[str]) -> bool:
         return self.replace(words, is_operand, WRONG_NUMBERS)
@@ -142,7 +142,7 @@ class Text:
         return True
 
     def spoil_type(self, words: list[str]) -> bool:
-        types = self.places(words, lambda word: word in TYPES)
+        types = self.indexes(words, lambda word: word in TYPES)
         if not types:
             return False
         at = self.r.choice(types)
@@ -169,7 +169,7 @@ class Text:
         return True
 
     def spoil_cell(self, at: int) -> None:
-        """A `cell` line that can't stand: its cell isn't there, or was given, or it stands too late."""
+        """A `cell` line that can't be there: its cell isn't there, or was given, or it comes too late."""
         cell = self.r.choice([str(self.cells), str(self.cells + 1), '-1', '0', '00', '0', '1', '2', '70000'])
         self.lines.insert(self.r.choice([1, 2, 3, 4, at]), ['cell', cell, self.r.choice(NUMBERS)])
 
@@ -206,7 +206,7 @@ class Text:
                 return
 
     def spoil(self) -> None:
-        """Faults in one to four places."""
+        """Faults at one to four words."""
         for _ in range(self.r.choice([1, 1, 1, 2, 2, 3, 4])):
             if not self.lines:
                 return

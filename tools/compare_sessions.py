@@ -49,14 +49,14 @@ MALFORMED = ['fly', 'step', 'step 00', 'step 0 0', 'step 0.', 'step 0.0', 'step 
              'causes', 'causes 0', 'causes 0#0', 'causes 0#1 x', 'causes 0.1#1000001', 'cause 0#1', 'races 0', 'races #', 'race', 'Races', 'edges 0', 'edge', 'Edges']
 STEP = re.compile(rb'^(0(?:\.\d+)*)#(\d+) ([a-z].*)$', re.MULTILINE)
 
-# A step's task, its number and its text.
+# A step's task, its ordinal and its text.
 Step = tuple[str, str, str]
 # Output, standard error and status.
 Answer = tuple[bytes, bytes, int]
 
 
 class Program:
-    """A random program: lists of words. A body generates tasks of the bodies behind it, and seldom of others."""
+    """A random program: lists of words. A body generates tasks of the bodies after it, and seldom of others."""
 
     def __init__(self, r: random.Random) -> None:
         self.r = r
@@ -169,7 +169,7 @@ def spell(r: random.Random, words: Sequence[str], wild: float) -> str:
 
 
 def pick_command(r: random.Random, steps: list[Step], newest: list[Step], scattered: bool, wild: float, workers: int) -> str:
-    """A command on a session that wrote these steps, each with its task, its number and its text."""
+    """A command on a session that wrote these steps, each with its task, its ordinal and its text."""
     if r.random() < wild:
         return r.choice(MALFORMED)
     if r.random() < 0.25:

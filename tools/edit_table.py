@@ -25,7 +25,7 @@ def pairs_of(edit: str) -> tuple[str, str, str]:
 
 
 def function_of(path: str, old: str) -> str:
-    """The function, or the definition, in which the text stands."""
+    """The function, or the definition, in which the text is."""
     with open(path, encoding="utf-8") as file:
         before = file.read().partition(old)[0]
     words: list[str] = re.findall(r"^ *(?:pub(?:\([a-z]+\))? )?fn (\w+)", before, re.M)

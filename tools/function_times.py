@@ -18,7 +18,7 @@ TICKS = os.sysconf("SC_CLK_TCK")
 
 
 def libraries() -> dict[str, list[str]]:
-    """What each crate of crates.txt stands on, the kit's libraries too."""
+    """What each crate of crates.txt uses, the kit's libraries too."""
     found = {}
     with open(os.path.join(TOP, "crates.txt"), encoding="utf-8") as file:
         for line in file:

@@ -37,7 +37,7 @@ def read(path: str) -> bytes:
 
 
 def parent_and_ticks(pid: int) -> tuple[int, int, int] | None:
-    """A process's parent, its start (which tells it from a later one of that number), and its processor time in ticks."""
+    """A process's parent, its start (a later process may have its number), and its processor time in ticks."""
     fields = read(f"/proc/{pid}/stat").rpartition(b")")[2].split()
     if len(fields) < 20:
         return None
@@ -61,7 +61,7 @@ def crate_and_kind(pid: int) -> Work:
 
 
 class Watch(threading.Thread):
-    """Looks at the processes below one, again and again, and keeps what each has taken."""
+    """Looks at the processes below one, again and again, and records what each has used."""
 
     def __init__(self, root: int) -> None:
         super().__init__(daemon=True)

@@ -31,7 +31,7 @@ Said = tuple[int, bytes, bytes]
 
 
 class Program:
-    """The program under test, run beside the library that refuses."""
+    """The program under test, run with the library that refuses."""
 
     def __init__(self, path: str, library: str) -> None:
         self.path, self.library = path, library
@@ -119,7 +119,7 @@ def memory(program: Program, count: Count, stride: int) -> None:
 
 
 def threads(program: Program, count: Count, _: object) -> None:
-    """Where only some threads can begin, or none, workers that have one take the steps, or the session does."""
+    """Where only some threads can begin, or none, workers that have one execute the steps, or the session does."""
     text = of_workers(4)
     is_right = judge_workers(program.path, text)
     for number in range(1, 9):
@@ -128,7 +128,7 @@ def threads(program: Program, count: Count, _: object) -> None:
 
 
 def streams(program: Program, count: Count, _: object) -> None:
-    """A full disk, a closed pipe, closed standard streams, a folder in place of a file."""
+    """A full disk, a closed pipe, closed standard streams, a folder for a file."""
     session = os.path.join(TOP, 'examples/race.session')
     cases = [
         ('> /dev/full', 3, b'taskback: write\n'), ('>&-', 3, b'taskback: write\n'), ('<&-', 3, b'taskback: read\n'),

@@ -1,4 +1,4 @@
-"""Sessions for the tools that refuse memory, reads and writes, and what tells whether an answer to one is right."""
+"""Sessions for the tools that refuse memory, reads and writes, and what judges whether an answer to one is right."""
 import os
 import re
 import subprocess
@@ -67,14 +67,14 @@ def views() -> Iterator[tuple[str, bytes]]:
 
 
 def of_workers(count: int) -> bytes:
-    """The sum by so many workers, half of it taken back and done again."""
+    """The sum by so many workers, half of it taken back and executed again."""
     return SUM + DIVIDER + b'go %d 1000\ncells\nrolltask 0.3\ngo %d 1000\ncells\n' % (count, count)
 
 
 def replayed(text: bytes, out: bytes) -> tuple[bytes, bytes]:
-    """A session that takes by `step`, in their order, the steps which workers are told to have taken; and what it has to answer.
+    """A session that executes by `step`, in their order, the steps that the reply says workers executed; and what it has to answer.
 
-    Where a `go` is told to be at its end, no task can step: a `run` behind its steps says so.
+    Where a `go` says it is done, no task can step: a `run` after its steps says so.
     """
     goes: list[list[bytes]] = []
     said: list[bytes] = []
@@ -106,13 +106,13 @@ def is_answer(whole: bytes, status: int, out: bytes, err: bytes) -> bool:
 
 
 def judge(program: str, text: bytes) -> Judge:
-    """What tells whether an answer to the session of one worker is right."""
+    """Judges whether an answer to the session of one worker is right."""
     whole = subprocess.run([program], input=text, capture_output=True, check=False, timeout=300).stdout
     return lambda status, out, err: is_answer(whole, status, out, err)
 
 
 def judge_workers(program: str, text: bytes) -> Judge:
-    """What tells whether an answer to the session of several workers is right: one worker can take the same steps."""
+    """Judges whether an answer to the session of several workers is right: one worker can execute the same steps."""
 
     def is_right(status: int, out: bytes, err: bytes) -> bool:
         steps, said = replayed(text, out)

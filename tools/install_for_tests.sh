@@ -1,6 +1,6 @@
 #!/usr/bin/env bash
 # Installs by apt what tests want and this machine lacks: Chromium, Graphviz, groff, Emacs with dap-mode, the schema of the debug protocol, Vim, zsh, mypy, flake8, clang, its OpenMP runtime and LLVM's headers.
-# It takes ten minutes at most. What can't be installed is told, and the tests that want it are left out.
+# It takes ten minutes at most. What can't be installed is named, and the tests that want it are left out.
 #   tools/install_for_tests.sh
 set -u
 end=$((SECONDS + 600))

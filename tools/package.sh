@@ -31,7 +31,7 @@ cd "$top"
 work=$(mktemp -d)
 trap 'rm -rf "$work"' EXIT
 
-# Copies these parts into a folder, and the programs to their places there, without tests and what Python keeps.
+# Copies these parts into a folder, and the programs to where they belong there, without tests and what Python caches.
 lay() {
     local folder=$1 crate
     shift
@@ -96,7 +96,7 @@ Description: reversible debugger for OpenMP task programs
  A shell, pictures, a page for a browser, a server for editors, and a recorder
  of C programs. taskcheck judges recorded runs of any runtime.
 CONTROL
-# What Python keeps beside the modules goes with them.
+# What Python caches with the modules goes with them.
 printf '#!/bin/sh\nset -e\nfind /usr/lib/taskback -name __pycache__ -prune -exec rm -rf {} +\n' > "$root/DEBIAN/prerm"
 chmod 755 "$root/DEBIAN/prerm"
 package="$into/taskback_${version}_$(dpkg --print-architecture).deb"

@@ -38,7 +38,7 @@ static int refuses(void)
         next_malloc = dlsym(RTLD_NEXT, "malloc");
         next_realloc = dlsym(RTLD_NEXT, "realloc");
     }
-    // workers of a run allocate beside one another
+    // workers of a run allocate at once
     return __atomic_add_fetch(&calls, 1, __ATOMIC_SEQ_CST) == refused;
 }
 

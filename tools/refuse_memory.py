@@ -4,7 +4,7 @@
     tools/refuse_memory.py [--program P] [--wants-tests] [SESSION..]    after `rt ci`, or `rt test` in each crate and `./run` once
 
 Without a session these are the examples, two stored cases, one for each view of three programs, and a sum
-by one worker and by four. The tests are those that stand in the crates' out/; with `--wants-tests` it
+by one worker and by four. The tests are those in the crates' out/; with `--wants-tests` it
 has failed where there are none.
 A test has to pass whichever allocation fails: it makes a refused call again, and asks that nothing
 had changed. A session has to give its whole output, or a beginning of it that ends with a whole
@@ -32,7 +32,7 @@ def run(command: Sequence[str], library: str, number: int, text: bytes = b'') ->
 
 
 def refuse_each(name: str, command: Sequence[str], library: str, is_right: Judge, text: bytes = b'') -> int:
-    """Counts upwards until a run meets no refusal, and tells how many were wrong."""
+    """Counts upwards until a run meets no refusal, and returns how many were wrong."""
     number = wrong = 0
     while True:
         number += 1
@@ -55,7 +55,7 @@ def stored_sessions() -> list[str]:
 
 
 def sessions(program: str, named: Sequence[str]) -> Iterator[tuple[str, bytes, Judge]]:
-    """Each session, with what it shows and what tells whether an answer to it is right."""
+    """Each session, with what it shows and what judges whether an answer to it is right."""
     for name in [os.path.abspath(name) for name in named] or stored_sessions():
         text = session_of(name)
         yield os.path.basename(name), text, judge(program, text)

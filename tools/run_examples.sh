@@ -1,7 +1,7 @@
 #!/usr/bin/env bash
 # Runs every example on the built program, and compares its output, standard error and exit status.
 #   tools/run_examples.sh [PROGRAM]
-# Beside NAME.session stand NAME.out, the session's program in NAME.task and, where they are wanted,
+# With NAME.session come NAME.out, the session's program in NAME.task and, where they are wanted,
 # NAME.args (one word a line), NAME.err (none: empty) and NAME.status (none: 0).
 set -u
 top=$(cd "$(dirname "${BASH_SOURCE[0]}")/.." && pwd)

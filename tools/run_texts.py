@@ -1,4 +1,4 @@
-"""Run texts made from random sessions: what the debugger took, as it reports it, and changes of that."""
+"""Run texts made from random sessions: what the debugger executed, as it reports it, and changes of that."""
 import random
 import subprocess
 from collections.abc import Iterator

@@ -5,7 +5,7 @@
 
 Each session is answered by both, and once more by the program with one allocation refused, picked at
 random: it gives the whole output then, or whole lines of it and status 3. A session that fails, or that takes
-too long, is told by its seed, with which `tools/compare_sessions.py --seed S --count 1` makes it again.
+too long, is named by its seed, with which `tools/compare_sessions.py --seed S --count 1` makes it again.
 """
 import argparse
 import collections

@@ -1,5 +1,5 @@
 #!/usr/bin/env bash
-# Runs random sessions against another implementation, with memory refused at random places, and says what failed.
+# Runs random sessions against another implementation, with random allocations refused, and says what failed.
 #   tools/soak.sh MINUTES 'COMMAND' [OPTION..]     COMMAND answers a session on standard input, with --limit L among its words;
 #                                                  options of tools/soak.py: --seed S, --jobs J, --program P (the proved one if not given)
 set -u

@@ -62,9 +62,9 @@ def main() -> int:
             said, status = done.result()
             print(said, end="", flush=True)
             total += counts_of(said, status)
-    told = ", ".join(f"{kind}={total[kind]}" for kind in KINDS if total[kind])
+    counts = ", ".join(f"{kind}={total[kind]}" for kind in KINDS if total[kind])
     failed = total["failures"] + total["errors"] + total["unexpected successes"] > 0
-    print(f"{'-' * 70}\nRan {total['ran']} tests in {time.monotonic() - begun:.3f}s\n\n{'FAILED' if failed else 'OK'}" + (f" ({told})" if told else ""))
+    print(f"{'-' * 70}\nRan {total['ran']} tests in {time.monotonic() - begun:.3f}s\n\n{'FAILED' if failed else 'OK'}" + (f" ({counts})" if counts else ""))
     return int(failed)
 
 

@@ -26,7 +26,7 @@ Places = collections.Counter[tuple[str, str]]
 
 
 class Word(NamedTuple):
-    """A word in its forms, the words to take in its stead, and these by the crates where it is."""
+    """A word in its forms, the words to use in its stead, and these by the crates where it is."""
     forms: tuple[str, ...]
     take: str
     by_crates: dict[tuple[str, ...], str]
@@ -102,7 +102,7 @@ def by_meaning(word: Word, found: dict[str, Places]) -> str:
     count: collections.Counter[str] = collections.Counter()
     for places in found.values():
         for (owner, _), times in places.items():
-            count[next((it for crates, it in word.by_crates.items() if owner in crates), "elsewhere")] += times
+            count[next((it for crates, it in word.by_crates.items() if owner in crates), "other")] += times
     return ", ".join(f"{meaning} {times}" for meaning, times in count.most_common()) if word.by_crates else ""
 
 

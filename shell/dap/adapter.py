@@ -38,7 +38,7 @@ class Adapter:
         self.send = send
         self.send_at_once = send_at_once
         self.done = False
-        # Whether a command of the console runs that was told as `continued`, and whether one was ended by a request.
+        # Whether a command of the console runs that was reported as `continued`, and whether one was ended by a request.
         self._runs = self._interrupted = False
         self._debuggee: Debuggee | None = None
         self._breakpoints: Breakpoints | None = None
@@ -158,9 +158,9 @@ class Adapter:
 
     def on_setBreakpoints(self, arguments: Body) -> Body:
         path = str(arguments.get("source", {}).get("path", ""))
-        wanted = [{**told, "line": int(told.get("line", 0)) + 1 - self._first} for told in arguments.get("breakpoints") or []]
-        told = self.breakpoints.at_lines(path, wanted)
-        return {"breakpoints": [{**one, "line": one["line"] - 1 + self._first} for one in told]}
+        wanted = [{**given, "line": int(given.get("line", 0)) + 1 - self._first} for given in arguments.get("breakpoints") or []]
+        made = self.breakpoints.at_lines(path, wanted)
+        return {"breakpoints": [{**one, "line": one["line"] - 1 + self._first} for one in made]}
 
     def on_setFunctionBreakpoints(self, arguments: Body) -> Body:
         return {"breakpoints": self.breakpoints.at_bodies(arguments.get("breakpoints") or [])}
@@ -214,7 +214,7 @@ class Adapter:
         finally:
             self._runs = False
         if runs or (was_command and before != self.state()):
-            there = shell.focus if shell.focus in shell.session.places.position else "0"
+            there = shell.focus if shell.focus in shell.session.positions.position else "0"
             self.stopped(Stopped("step", there, f"after `{text.strip()}`"))
         return {"result": result, "variablesReference": 0}
 
@@ -289,14 +289,14 @@ class Adapter:
             self.output(how.text)
         if how.hit:
             body["hitBreakpointIds"] = how.hit
-        self.tell_races()
+        self.report_races()
         self.send("stopped", body)
 
     def output(self, text: str, category: str = "console") -> None:
         """A line in the client's console."""
         self.send("output", {"category": category, "output": text + "\n"})
 
-    def tell_races(self) -> None:
+    def report_races(self) -> None:
         """A custom event with the races so far, where they changed, and the new kinds of them in the console."""
         session = self.debuggee.session
         if len(session.history) > MOST_STEPS:
@@ -306,11 +306,11 @@ class Adapter:
         if names == self._raced:
             return
         kinds = kinds_of(session, races)
-        told = [{"first": kind.example.first, "second": kind.example.second, "over": kind.example.over, "apart": kind.example.apart,
-                 "count": kind.count, "lines": [self.debuggee.lines.shown(line)._asdict() for line in kind.lines], "advice": kind.advice()}
-                for kind in kinds]
+        event = [{"first": kind.example.first, "second": kind.example.second, "over": kind.example.over, "apart": kind.example.apart,
+                  "count": kind.count, "lines": [self.debuggee.lines.shown(line)._asdict() for line in kind.lines], "advice": kind.advice()}
+                 for kind in kinds]
         for kind in kinds:
             if f"{kind.example.first} {kind.example.second}" not in self._raced:
-                self.output(f"{kind.example.first} and {kind.example.second} race over {kind.example.over}; {kind.told()}", "important")
+                self.output(f"{kind.example.first} and {kind.example.second} race over {kind.example.over}; {kind.in_words()}", "important")
         self._raced = names
-        self.send("taskback.races", {"races": told})
+        self.send("taskback.races", {"races": event})

@@ -50,13 +50,13 @@ class Breakpoints:
         return [self.at_line(kind, path, line) for line in wanted]
 
     def at_line(self, kind: str, path: str, wanted: Body) -> Body:
-        """One at a line, or at the next at which a step is taken."""
+        """One at a line, or at the next at which a step is executed."""
         number = int(wanted.get("line", 0))
         lines = self.debuggee.lines
         there = lines.nearest(path, number)
         steps = lines.steps_at(path, there)
         if not steps:
-            return {"verified": False, "line": number, "message": "no step is taken at this line"}
+            return {"verified": False, "line": number, "message": "no step is executed at this line"}
         try:
             numbers = [self.add(kind, "breakpoint", Where("line", str(step)), wanted.get("condition") or "") for step in steps]
         except Failed as fault:
@@ -64,22 +64,22 @@ class Breakpoints:
         self._lines.update((step, (numbers[0], there)) for step in numbers)
         return {"verified": True, "id": numbers[0], "line": there, "source": {"path": path}}
 
-    def as_told(self, number: int, text: str) -> tuple[int, str]:
+    def as_shown(self, number: int, text: str) -> tuple[int, str]:
         """A breakpoint as the client knows it: one at a line of its file may be several at lines of the program."""
-        told, line = self._lines.get(number, (number, None))
-        return told, text if line is None else re.sub("^line [0-9]+", f"line {line}", text)
+        shown, line = self._lines.get(number, (number, None))
+        return shown, text if line is None else re.sub("^line [0-9]+", f"line {line}", text)
 
     def at_bodies(self, wanted: list[Body]) -> list[Body]:
         """Breakpoints at the starts of bodies."""
         self.replace("bodies")
-        told = []
+        made = []
         for body in wanted:
             name = str(body.get("name", ""))
             if name not in self.debuggee.session.source.bodies:
-                told.append({"verified": False, "message": f"no body of the program is named {name}"})
+                made.append({"verified": False, "message": f"no body of the program is named {name}"})
                 continue
-            told.append(self.verified("bodies", "function breakpoint", Where("body", name), body))
-        return told
+            made.append(self.verified("bodies", "function breakpoint", Where("body", name), body))
+        return made
 
     def verified(self, kind: str, reason: str, where: Where, wanted: Body) -> Body:
         """One of the shell's breakpoints, or why there is none."""
@@ -103,7 +103,7 @@ class Breakpoints:
         return [self.at_one(data) for data in wanted]
 
     def at_one(self, wanted: Body) -> Body:
-        """One of them: reads of a cell are met by its steps, changes by a watched number."""
+        """One of them: reads of a cell are met by its steps, changes by a watched value."""
         name = str(wanted.get("dataId", ""))
         cell = re.fullmatch(r"c\[([0-9]+)\]", name)
         if cell and wanted.get("accessType", "write") != "write":
@@ -111,9 +111,9 @@ class Breakpoints:
         if not cell and not re.fullmatch(r"r([0-9]|1[0-5]) of 0(\.[1-9][0-9]*)*", name):
             return {"verified": False, "message": f"{name} can't be watched"}
         if wanted.get("condition"):
-            return {"verified": False, "message": "a watched number has no condition"}
-        told, _ = self.stops.add_watch(name, "0", self.debuggee.session)
-        return {"verified": True, "id": self.note("data", "data breakpoint", int(told[1:]))}
+            return {"verified": False, "message": "a watched value has no condition"}
+        watch, _ = self.stops.add_watch(name, "0", self.debuggee.session)
+        return {"verified": True, "id": self.note("data", "data breakpoint", int(watch[1:]))}
 
     def at_kinds(self, filters: list[str]) -> list[Body]:
         """Breakpoints at faults and prints."""

@@ -59,13 +59,13 @@ class Debuggee:
         """The history that a session's commands leave, as names of steps."""
         if not commands:
             return []
-        beside = self.session.beside()
+        second = self.session.another()
         try:
             for command in commands:
-                beside.do(command)
-            return list(beside.history)
+                second.do(command)
+            return list(second.history)
         finally:
-            beside.close()
+            second.close()
 
     def close(self) -> None:
         """Ends the program."""
@@ -90,11 +90,11 @@ class Debuggee:
 
     def threads(self) -> list[dict[str, object]]:
         """The tasks as threads; where there are many, those alone that haven't ended."""
-        told = [line.split(" ") for line in self.shell.session.view("tasks")[1:]]
-        if len(told) > MOST_THREADS:
-            told = [words for words in told if words[2] in ("pending", "running")][:MOST_THREADS] or told[:1]
+        rows = [line.split(" ") for line in self.shell.session.view("tasks")[1:]]
+        if len(rows) > MOST_THREADS:
+            rows = [words for words in rows if words[2] in ("pending", "running")][:MOST_THREADS] or rows[:1]
         return [{"id": self.id_of(name), "name": f"{name} {body}" + ("" if state in ("pending", "running") else f" ({state})")}
-                for name, body, state, *_ in told]
+                for name, body, state, *_ in rows]
 
     # Steps
 

@@ -36,17 +36,17 @@ class Lines:
         return os.path.realpath(next((path for path in paths if os.path.exists(path)), paths[0]))
 
     def shown(self, number: int | None) -> Line:
-        """Where an editor shows a line of the program; of a recorded run, the nearest line above that has a place."""
+        """Where an editor shows a line of the program; of a recorded run, the nearest line above that has a line of C."""
         own = Line(os.path.abspath(self.source.path), number or 1)
         if number is None or not self._shown:
             return own
         body = self.source.body_at(number)
-        near = [at for at in self._shown if self.source.body_at(at) == body]
-        above = max((at for at in near if at <= number), default=min(near, default=None))
+        inside = [at for at in self._shown if self.source.body_at(at) == body]
+        above = max((at for at in inside if at <= number), default=min(inside, default=None))
         return own if above is None else self._shown[above]
 
     def steps_at(self, path: str, number: int) -> list[int]:
-        """The lines of the program at which a step is taken for a line that an editor shows."""
+        """The lines of the program at which a step is executed for a line that an editor shows."""
         if os.path.realpath(path) == os.path.realpath(self.source.path):
             found = [number]
         else:
@@ -54,7 +54,7 @@ class Lines:
         return [at for at in found if self.source.is_step(at)]
 
     def nearest(self, path: str, number: int) -> int:
-        """The line at or after one at which a step can be taken; the line itself where there is none."""
+        """The line at or after one at which a step can be executed; the line itself where there is none."""
         real = os.path.realpath(path)
         if real == os.path.realpath(self.source.path):
             there = [at for at in range(number, len(self.source.lines) + 1) if self.source.is_step(at)]

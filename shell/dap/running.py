@@ -11,9 +11,9 @@ from shell.session import Session, is_step
 from shell.stops import Where, program_stops
 from shell.texts import refusal_words
 
-# So many steps are taken between two looks for a request.
+# So many steps are executed between two looks for a request.
 PIECE = 50
-# Of those at which nothing stops so many are taken.
+# Of those at which nothing stops so many are executed.
 MANY = 500
 
 
@@ -73,16 +73,16 @@ class Runner:
         """How breakpoints end a job at a step, from what is said of those that are met, and by those of the program."""
         task = line.split("#")[0]
         if not said:
-            own = [str(where) for where in self.own if where.meets(line, self.session.places)]
+            own = [str(where) for where in self.own if where.meets(line, self.session.positions)]
             return Stopped("breakpoint", task, "; ".join(own)) if own else None
         found = [(int(number[1:]), text) for number, text in (line.split(": ", 1) for line in said)]
         reason = self.breakpoints.reasons.get(found[0][0], "breakpoint")
-        told = [self.breakpoints.as_told(number, text) for number, text in found]
-        return Stopped(reason, task, "; ".join(dict.fromkeys(text for _, text in told)), sorted({number for number, _ in told}))
+        shown = [self.breakpoints.as_shown(number, text) for number, text in found]
+        return Stopped(reason, task, "; ".join(dict.fromkeys(text for _, text in shown)), sorted({number for number, _ in shown}))
 
     def over(self, task: str) -> Stopped:
         """How a job ends where no task can step."""
-        return Stopped("end", task, f"the run is over: no task can step, {len(self.session.history)} steps are taken")
+        return Stopped("end", task, f"the run is over: no task can step, {len(self.session.history)} steps are executed")
 
     def pause(self) -> None:
         """Ends the job that is under way between two steps."""
@@ -161,9 +161,9 @@ class Runner:
 
     def out(self, task: str) -> Job:
         """Up to the task's end."""
-        if self.session.places.position.get(task) is None:
+        if self.session.positions.position.get(task) is None:
             raise Failed(f"{task} has ended")
-        return self.forwards(lambda line: self.session.places.position.get(task) is None)
+        return self.forwards(lambda line: self.session.positions.position.get(task) is None)
 
     # Backwards
 
@@ -171,7 +171,7 @@ class Runner:
         """The task's newest step back, with all that need it."""
         newest = next((name for name in reversed(self.session.history) if name.split("#")[0] == task), None)
         if newest is None:
-            raise Failed(f"{task} has taken no step")
+            raise Failed(f"{task} has executed no step")
         self.roll(f"roll {newest}", task)
         yield from ()
 
@@ -182,7 +182,7 @@ class Runner:
             raise Failed(refusal_words(command, reply[0], self.session))
         self.debuggee.took_back()
         gone = [line.split(" ")[0] for line in reply[1:]]
-        there = task if task in self.session.places.position else "0"
+        there = task if task in self.session.positions.position else "0"
         self.debuggee.shell.focus = there
         others = f", and {len(gone) - 1} that need it" if len(gone) > 1 else ""
         self.stopped(Stopped("step", there, f"taken back: {gone[0]}{others}"))

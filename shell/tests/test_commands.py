@@ -21,7 +21,7 @@ RACE: Rows = (
     ("tasks", ["tasks 2", "0 main running 5"]),
     ("run 1", ["0#3 spawn 0.2 add 2", "ran 1 limit"]),
     ("waits", ["waits 1", "0 Children 0.1"]),
-    ("step 0", ["refused 5 Children 0.1", "  0 stands at a taskwait, and its child 0.1 hasn't ended"]),
+    ("step 0", ["refused 5 Children 0.1", "  0 is at a taskwait, and its child 0.1 hasn't ended"]),
     ("step 0.7", ["refused 1 NoSuchTask", "  task 0.7 hasn't been generated"]),
     ("break cell 0", ["break 1"]),
     ("b line 14", ["break s1 line 14", "  go stops after each step at 14: end"]),
@@ -88,7 +88,7 @@ RACE: Rows = (
     ("back", ["the history has no step"]),
     ("break body nobody", ["refused 3 NoSuchBody", "  no body of the program has this name"]),
     ("break cell 9", ["refused 4 NoSuchCell", "  the program has no cell 9"]),
-    ("break line 2", ["no step is taken at line 2"]),
+    ("break line 2", ["no step is executed at line 2"]),
     ("fly", ["error word", "  no such command; `help` lists them"]),
     ("step 0 1 2", ["step [T [N]], for example: step 0.1 3"]),
     ("undo", ["error count", "  too few words, or too many: undo T#K, for example: undo 0.1#4"]),
@@ -137,7 +137,7 @@ WAITING: dict[str, Rows] = {
                        ("step 0.1", ["refused 4 Excluded 0.2",
                                      "  0.1 can't start while 0.2 is under way: depend mutexinoutset 0 on lines 4 and 5"])),
     "waits.task": (("run 2", []), ("finish 0.1", ["0.1#1 start"]), ("step 0 3", ["0#3 wait"]), ("finish 0.2", ["0.2#1 start"]),
-                   ("step 0", ["refused 6 Group 0.2.1", "  0 stands at the end of a taskgroup, and 0.2.1 hasn't ended"])),
+                   ("step 0", ["refused 6 Group 0.2.1", "  0 is at the end of a taskgroup, and 0.2.1 hasn't ended"])),
     "undeferred.task": (("run 2", []), ("step 0", ["refused 13 Undeferred 0.1", "  0 waits for its undeferred child 0.1"])),
 }
 

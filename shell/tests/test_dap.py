@@ -140,7 +140,7 @@ class Requests(unittest.TestCase):
         self.assertRegex(stopped["text"], r"taken back: 0\.1#1, and \d+ that need it")
         self.assertEqual(client.frame("0.1")["line"], 10)
         self.assertEqual(client.stopped("reverseContinue", threadId=1)["text"], "the run is at its beginning")
-        self.assertEqual(client.refused("stepBack", threadId=1), "0 has taken no step")
+        self.assertEqual(client.refused("stepBack", threadId=1), "0 has executed no step")
         client.stopped("continue", threadId=1)
         self.assertEqual(client.stopped("restart")["reason"], "entry")
         self.assertEqual(client.frame("0")["line"], 3)

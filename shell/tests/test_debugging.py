@@ -1,4 +1,4 @@
-"""Breakpoints with conditions, watched numbers, ways back and again, past states, and two runs side by side."""
+"""Breakpoints with conditions, watched values, ways back and again, past states, and two runs side by side."""
 
 import fcntl
 import os
@@ -52,6 +52,11 @@ class Stopping(unittest.TestCase):
                          [["cleared s2"], ["no breakpoint s2; `breaks` shows them"], ["cleared line 5"], ["no breakpoint s9; `breaks` shows them"]])
         self.assertEqual(shell.plain("go")[-1], "ran 60 done")
 
+    def test_the_line_of_a_body_is_cleared_as_it_was_set(self) -> None:
+        shell = Typed(self, example("race.task"))
+        self.assertEqual([shell.plain(line) for line in ("break line 10", "break line 10 if value == 3", "clear line 10", "breaks", "clear line 10")],
+                         [["break 1"], ["break s1 body add if value == 3"], ["cleared 1", "cleared line 10"], ["breaks 0"], ["no breakpoint is at line 10"]])
+
     def test_one_at_the_last_step_that_was_asked_for(self) -> None:
         shell = Typed(self, example("race.task"))
         shell.ask("break line 5")
@@ -98,12 +103,12 @@ class Stopping(unittest.TestCase):
         self.assertEqual(shell.session.newest, "0#6")
         self.assertEqual(shell.plain("rc")[-1], "went back 6 start")
         self.assertEqual(len(shell.plain("redo")), 7)
-        self.assertEqual(shell.ask("rc x")[0], "`rc` stands alone")
+        self.assertEqual(shell.ask("rc x")[0], "`rc` takes no words")
 
     def test_lines_of_the_c_file_of_a_recorded_run(self) -> None:
         shell = Typed(self, RECORDED.split("---\n")[0], "sum.session")
         for typed, wanted in (
-                ("break sum.c:5", ["error word", "  did you mean `break line sum.c:5`?"]), ("break line sum.c:99", ["no step is taken at sum.c:99"]),
+                ("break sum.c:5", ["error word", "  did you mean `break line sum.c:5`?"]), ("break line sum.c:99", ["no step is executed at sum.c:99"]),
                 ("break line sum.c:5", ["break s1 line sum.c:5", "  go stops after each step at 2 lines of the session"]),
                 ("go", ["0.1#2 load r1 0 0", "ran 5 break", "  breakpoint s1: line sum.c:5"]), ("go", ["0.1#3 store 0 1", "ran 1 break", "  breakpoint s1: line sum.c:5"]),
                 ("breaks", ["breaks 0", "s1 line sum.c:5"]), ("clear line sum.c:6", ["no breakpoint is at line sum.c:6"])):
@@ -138,7 +143,7 @@ class BackAndAgain(unittest.TestCase):
         shell.ask("roll 0.1#4")
         shell.ask("step 0.2")
         before = state(shell.session), shell.session.entries
-        self.assertEqual(shell.ask("redo"), ["0.2#2 can't be taken again as it was: 0.2#2 was taken again otherwise: load r1 0 0"])
+        self.assertEqual(shell.ask("redo"), ["0.2#2 can't be executed again as it was: 0.2#2 was executed again otherwise: load r1 0 0"])
         self.assertEqual((state(shell.session), shell.session.entries), before)
         shell.ask("back")
         self.assertEqual(shell.plain("redo"), ["0.2#2 load r1 0 0", "redone 1"])
@@ -161,7 +166,7 @@ class BackAndAgain(unittest.TestCase):
         shell = Typed(self, example("race.task"))
         for line in ("run 3", "step 0.1 2", "roll 0.1#2", "finish 0.2"):
             shell.ask(line)
-        self.assertEqual(shell.ask("redo"), ["0.1#2 can't be taken again as it was: 0.2#4 store 0 2 came between"])
+        self.assertEqual(shell.ask("redo"), ["0.1#2 can't be executed again as it was: 0.2#4 store 0 2 came between"])
 
     def test_redo_of_one_step_takes_what_it_needs(self) -> None:
         shell = Typed(self, example("unrelated.task"))
@@ -193,7 +198,7 @@ class BackAndAgain(unittest.TestCase):
         self.assertEqual(shell.plain("rs -f 0.2")[0], "rolled 4")
         self.assertEqual(shell.plain("rs 0.9"), ["refused 1 NoSuchTask"])
         shell.ask("roll 0#1")
-        self.assertEqual(shell.ask("rs 0"), ["task 0 has taken no step"])
+        self.assertEqual(shell.ask("rs 0"), ["task 0 has executed no step"])
 
     def test_rs_asks_at_a_terminal(self) -> None:
         shell = Terminal(self, [os.path.join(EXAMPLES, "race.task")], NO_COLOR="1")
@@ -228,9 +233,9 @@ class BackAndAgain(unittest.TestCase):
             choice = random.Random(seed)
             for _ in range(12):
                 shell.ask(choice.choice(("random 1 9", "back 2", "random 2 5", "redo", "last 3")))
-                kept = {task: line for task, line in shell.session.places.position.items() if line}
-                shell.session.places.learn(shell.session.view("tasks"))
-                self.assertEqual(kept, {task: line for task, line in shell.session.places.position.items() if line})
+                kept = {task: line for task, line in shell.session.positions.position.items() if line}
+                shell.session.positions.learn(shell.session.view("tasks"))
+                self.assertEqual(kept, {task: line for task, line in shell.session.positions.position.items() if line})
                 self.assertEqual([f"{name} {did}" for name, did in shell.session.history.items()], shell.session.view("hist")[1:])
 
 
@@ -296,7 +301,7 @@ class SideBySide(unittest.TestCase):
         self.assertEqual(shell.ask(f"compare {files['other']}"), [
             "different at 0.1#4", "  here:  store 0 1", "  there: store 0 1", "  here it needs no step of another task",
             "  there it needs cell 0: 0.2#2 load r1 0 0"])
-        self.assertEqual(shell.ask(f"compare {files['short']}")[:3], ["different at 0.1#3", "  here:  let r1 1", "  there: not taken"])
+        self.assertEqual(shell.ask(f"compare {files['short']}")[:3], ["different at 0.1#3", "  here:  let r1 1", "  there: not executed"])
         self.assertEqual(shell.ask("compare /no/file"), ["can't read /no/file: No such file or directory"])
         self.assertIn("line 1: NoCells", shell.ask("compare " + write_file(self, "x\n---\n", "bad"))[0])
         self.assertIn("compare FILE", shell.ask("compare")[0])

@@ -83,7 +83,7 @@ class Printed(unittest.TestCase):
         for typed, wanted in (("print r0", "r0 of 0.2 = 2"), ("p r1 of 0.1", "r1 of 0.1 = 1"), ("p c[0]", "c[0] = 1"), ("p arg0 of 0.1", "arg0 of 0.1 = 1"),
                               ("p steps(0.1) + 1", "steps(0.1) + 1 = 6"), ("p r0 + r1 * 2", "(r0 + r1 * 2) of 0.2 = 8"),
                               ("p r0 of 0.7", "task 0.7 hasn't been generated"), ("p c[1]", "the program has no cell 1"),
-                              ("p value", "`value` is that of a step: it stands in the condition of a breakpoint"), ("p arg3 of 0.1", "task 0.1 has 1 argument"),
+                              ("p value", "`value` is that of a step: it is for the condition of a breakpoint"), ("p arg3 of 0.1", "task 0.1 has 1 argument"),
                               ("p", "print EXPR, for example: print r0 + c[3]")):
             self.assertTrue(shell.ask(typed)[0].startswith(wanted), (typed, shell.ask(typed)))
 

@@ -140,12 +140,12 @@ class DataTest(unittest.TestCase):
             self.addCleanup(session.close)
             for command in ("run 40", "rolltask 0.1", "run 60", "rolltask 0.2"):
                 if command.startswith("rolltask"):
-                    wanted.update({"|".join([*kind.places, str(kind.example.over == "print").lower(), str(kind.example.apart).lower()])
+                    wanted.update({"|".join([*kind.names, str(kind.example.over == "print").lower(), str(kind.example.apart).lower()])
                                    for kind in kinds_of(session, Facts(session).races())})
                 session.do(command)
             there = kinds_of(session, Facts(session).races())
             told = self.data(session)["hints"]
-            self.assertEqual(told.keys(), wanted | {"|".join([*kind.places, str(kind.example.over == "print").lower(), str(kind.example.apart).lower()]) for kind in there})
+            self.assertEqual(told.keys(), wanted | {"|".join([*kind.names, str(kind.example.over == "print").lower(), str(kind.example.apart).lower()]) for kind in there})
             for kind in there:
                 self.assertIn(kind.advice().replace("`", ""), told.values(), seed)
 

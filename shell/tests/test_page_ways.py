@@ -220,7 +220,7 @@ class Ways(InBrowser):
         session = Session(PROGRAM, Source(text, "clusters.task"))
         self.addCleanup(session.close)
         session.do("run 20000")
-        line_of = session.places.line_of
+        line_of = session.positions.line_of
         kinds = [tuple(line_of(step) for step in line.split(" ")[:2]) for line in session.view("races")[1:]]
         told = self.tried(page_file(self, session), """
           return [texts(".cluster .racing"), [...document.querySelectorAll("#graph .edge.racing")].map((edge) => [edge.dataset.from, edge.dataset.to, edge.textContent.split(",")[0]])];""")

@@ -82,9 +82,9 @@ class PlacesTest(unittest.TestCase):
             session = Session(PROGRAM, Source(text, "x.task"))
             self.addCleanup(session.close)
             while is_step(session.do("run 1")[0]):
-                kept = dict(session.places.position)
-                session.places.learn(session.view("tasks"))
-                self.assertEqual({task: line for task, line in kept.items() if line}, session.places.position)
+                kept = dict(session.positions.position)
+                session.positions.learn(session.view("tasks"))
+                self.assertEqual({task: line for task, line in kept.items() if line}, session.positions.position)
 
     def test_saved_session_gives_the_same_replies(self) -> None:
         session = Session(PROGRAM, Source(example("race.task"), "race.task"))

@@ -68,7 +68,7 @@ def told_races(session: Session) -> dict[Any, str]:
     found = {}
     for line in session.view("races")[1:]:
         steps = line.split(" ")[:2]
-        places = tuple((step.split("#")[0], session.places.line_of(step)) for step in steps)
+        places = tuple((step.split("#")[0], session.positions.line_of(step)) for step in steps)
         found[places] = line
     return found
 
@@ -80,7 +80,7 @@ def mended(text: str, kind: race_advice.Kind) -> tuple[str, dict[int, int]]:
     if kind.clauses:
         for clause in kind.clauses:
             before, _, condition = lines[clause.line - 1].partition(" if ")
-            place = clause.place or "0"
+            place = clause.location or "0"
             if clause.instead:
                 before = before.replace(f"depend {clause.instead} {place}", "", 1)
             lines[clause.line - 1] = f"{before} depend {clause.type} {place}" + (f" if {condition}" if condition else "")
@@ -135,15 +135,15 @@ class RaceWords(unittest.TestCase):
     def no_clause_twice(self, session: Session, kind: race_advice.Kind, seed: int) -> None:
         """What is advised isn't there already."""
         for clause in kind.clauses:
-            if clause.place:
-                self.assertNotRegex(session.source.line(clause.line) + " ", f"depend {clause.type} {clause.place} ", seed)
+            if clause.location:
+                self.assertNotRegex(session.source.line(clause.line) + " ", f"depend {clause.type} {clause.location} ", seed)
 
     def test_clauses_in_terms_of_the_task_line(self) -> None:
         for name, (body, wanted) in ADVISED.items():
             with self.subTest(name=name):
                 session = run_to_end(self, "cells 4\nbody main 0\n" + body)
                 races = [race_of(line) for line in session.view("races")[1:]]
-                told = [kind.told() for kind in race_advice.kinds_of(session, races)]
+                told = [kind.in_words() for kind in race_advice.kinds_of(session, races)]
                 self.assertIn(wanted, told)
                 better, _ = mended(session.source.text, race_advice.kinds_of(session, races)[0])
                 left = [race_of(line) for line in run_to_end(self, better).view("races")[1:]]
@@ -152,7 +152,7 @@ class RaceWords(unittest.TestCase):
     def test_the_missing_clause_alone_is_named(self) -> None:
         session = run_to_end(self, example("luck.task"))
         races = [race_of(line) for line in session.view("races")[1:]]
-        self.assertEqual([kind.told() for kind in race_advice.kinds_of(session, races)],
+        self.assertEqual([kind.in_words() for kind in race_advice.kinds_of(session, races)],
                          ["race 1: `depend in 1` on line 6 would order them, or a `taskwait` between"])
 
     def test_a_recorded_run_shows_its_lines_of_c(self) -> None:

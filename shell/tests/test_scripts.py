@@ -106,7 +106,7 @@ class Checked(unittest.TestCase):
     def test_a_refused_step_is_1_with_its_line_and_reason(self) -> None:
         out, told, status = ran("--check", "-x", self.script("# first\nrun 3\nstep 0\nrun 99\n"), RACE)
         self.assertEqual((out.split("\n")[4:], told, status), (
-            ["refused 5 Children 0.1", "a.script:3: step 0: 0 stands at a taskwait, and its child 0.1 hasn't ended", ""][-len(out.split("\n")[4:]):], "", 1))
+            ["refused 5 Children 0.1", "a.script:3: step 0: 0 is at a taskwait, and its child 0.1 hasn't ended", ""][-len(out.split("\n")[4:]):], "", 1))
 
     def test_a_refused_command_of_the_session_itself_has_its_line(self) -> None:
         session = write_file(self, "cells 1\nbody main 0\nend\n---\nstep 0\n# a comment\nstep 0.1\n", "own.session")

@@ -102,7 +102,7 @@ class Served(unittest.TestCase):
         told = self.do(server, "run 3")
         self.assertEqual((told["lines"][-1], told["outcome"], len(told["data"]["steps"])), ("ran 3 limit", "done", 3))
         told = self.do(server, "step 0")
-        self.assertEqual((told["outcome"], told["words"]), ("refused", ["0 stands at a taskwait, and its child 0.1 hasn't ended"]))
+        self.assertEqual((told["outcome"], told["words"]), ("refused", ["0 is at a taskwait, and its child 0.1 hasn't ended"]))
         self.do(server, "run")
         self.assertEqual(self.do(server, "roll 0.1#4")["lines"][0], "rolled 10")
         self.assertEqual(self.do(server, "redo")["lines"][-1], "redone 10")

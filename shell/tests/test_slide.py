@@ -72,7 +72,7 @@ class SlideTest(unittest.TestCase):
         session = Session(PROGRAM, Source(text, "x.task"))
         self.addCleanup(session.close)
         session.do("run 999")
-        lines = Counter(tuple(sorted({session.places.line_of(step) for step in line.split(" ")[:2]})) for line in session.view("races")[1:])
+        lines = Counter(tuple(sorted({session.positions.line_of(step) for step in line.split(" ")[:2]})) for line in session.view("races")[1:])
         self.assertEqual(lines.keys(), {(10, 13), (14,)})
         self.assertIn(f"✕ lines 10 and 13: {lines[10, 13]} races; line 14: {lines[14,]} races", slide_of(lanes_of(session)))
 

@@ -24,7 +24,7 @@ MEANT = (
     ("b 12 if r1 > 1", "did you mean `break line 12 if r1 > 1`?"),
     ("rwatch c[0]", "did you mean `watch c[0]`?"), ("condition 1 r0 > 1", "did you mean `break line L if r0 > 1`?"), ("load a b", "did you mean `source a b`?"),
     ("start", "did you mean `step 0`?"), ("step 5", "a task is written 0.1, and a step 0.1#2; `step 0 5` takes 5 steps of task 0"),
-    ("p $r1", "`$r1` can't stand in an expression; a register is written r1"), ("p c", "a cell is written c[3]"), ("p c + 1", "a cell is written c[3]"),
+    ("p $r1", "`$r1` can't be in an expression; a register is written r1"), ("p c", "a cell is written c[3]"), ("p c + 1", "a cell is written c[3]"),
     ("info threads", "tasks 3"), ("info breakpoints", "breaks 0"), ("i locals", "task 0"), ("info registers 0.1", "task 0.1"), ("info zebra", "no such view: zebra"),
     ("list add", "=>   10  body add 1   <- 0.1, 0.2"),
     ("break zebra", "break task T | cell C | body NAME"), ("show", "did you mean `set`?"), ("shell ls", "no other program is run from here"), ("! ls", "no other program"),
@@ -35,7 +35,7 @@ MEANT = (
     ("seek 4", "did you mean `at 4`?"), ("when", "did you mean `hist`?"), ("?", "did you mean `help`?"), ("EOF", "no such command; `help` lists them"),
     ("jump 12", "`until T#K` runs up to one"), ("goto 12", "`until T#K` runs up to one"), ("enable 1", "`break` makes it again"), ("record", "every step is recorded"),
     ("ignore 1 3", "a condition may count: `break line L if steps(0.1) > 4`"), ("commands", "`display EXPR` shows a number"), ("call add", "bodies are run by tasks alone"),
-    ("set var r1 = 3", "registers and cells can't be set"), ("set r1 = 3", "registers and cells can't be set"), ("rc 3", "`rc` stands alone"),
+    ("set var r1 = 3", "registers and cells can't be set"), ("set r1 = 3", "registers and cells can't be set"), ("rc 3", "`rc` takes no words"),
     ("info watch", "breaks 0"), ("info display", "no expression is displayed"), ("info reg", "task 0"), ("info thr", "tasks 3"), ("info line", "=>   10  body add 1   <- 0.1, 0.2"),
     ("p c0 + 1", "a cell is written c[0]"), ("p cell 3", "a cell is written c[3]"), ("watch c[0] if c[0] > 1", "a watch has no condition: `break cell 0 if value > 1`"),
     ("until 12", "until wants a step, as 0.2#4; `break line 12` and `go` stop at a line"), ("until 0.1#99", "0.1#99 was never reached"), ("help ro", "ambiguous: roll, rolltask, rollcell, rollprint"),
@@ -54,7 +54,7 @@ FAULTY = (
     ("cells 1\nbody main 0\n  if 1 == 1\nbody f 0\nend\n", 4, "Nesting", "an `end` is missing in front of this line: the `if` of line 3 is still open"),
     ("cells 1\nbody main 0\nend\nend\n", 4, "Nesting", "no block is open here for this `end`"),
     ("cells 1\nbody main 0\n  else\nend\n", 3, "Nesting", "this `else` has no `if`: the innermost block is the `body main` of line 2"),
-    ("cells 1\nprint 1\n", 2, "Nesting", "a statement stands in a body: `body NAME PARAMETERS` comes first"),
+    ("cells 1\nprint 1\n", 2, "Nesting", "a statement is in a body: `body NAME PARAMETERS` comes first"),
     ("cells 1\nbody main 0\n  task f 1\nend\nbody f 2\nend\n", 3, "Arity", "body f takes 2 arguments, and 1 is given"),
     ("cells 1\nbody main 0\n  task f\nend\nbody f 1\nend\n", 3, "Arity", "body f takes 1 argument, and 0 are given"),
     ("cells 1\nbody main 0\n  store 1\nend\n", 3, "Arity", "store wants 2 words after it, and 1 is there"),
@@ -159,9 +159,9 @@ class FullJournal(unittest.TestCase):
         for line in ("run 9", "roll 0.1#1", "run 5"):
             shell.ask(line)
         wanted = shell.session.view("hist")
-        self.assertEqual(shell.session.room, 20 - 1 - 9 - 1 - 5)
+        self.assertEqual(shell.session.capacity, 20 - 1 - 9 - 1 - 5)
         shell.ask("trim")
-        self.assertEqual((shell.session.view("hist"), shell.session.room), (wanted, 20 - 1 - len(wanted) + 1))
+        self.assertEqual((shell.session.view("hist"), shell.session.capacity), (wanted, 20 - 1 - len(wanted) + 1))
         self.assertEqual(shell.session.view("breaks")[1:], ["1 cell 0"])
         self.assertIn("trim [N]", shell.ask("trim 99")[0])
 

@@ -144,7 +144,7 @@ class Typed(Stalling):
         self.assertTrue(0 < taken < 1000000 and taken % 1000 == 0, taken)
         self.assertEqual(shell.ask("hist")[0], f"hist {taken}")
         path = write_file(self, "", "saved.session")
-        self.assertEqual(shell.ask("save " + path), [f"saved {path}, 2 commands", "  what several workers did is saved as the steps that they took"])
+        self.assertEqual(shell.ask("save " + path), [f"saved {path}, 2 commands", "  what several workers did is saved as the steps that they executed"])
         with open(path, encoding="utf-8") as file:
             said, status = replies(file.read() + "ready\n", "--limit", "1000000")
         self.assertEqual((len(said), status), (2 * taken + 1 + len(shell.ask("ready")), 0))
