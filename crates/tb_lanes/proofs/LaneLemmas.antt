@@ -31,13 +31,13 @@ no_more cells t last acts a h e = by (begun cells t (last ∷ acts) a h)
 module _ (o : Order) (entries : List Entry) (tasks : Tasks) (are : AreTasks entries tasks) (p : ℕ) (w : p < length entries) (clocks : Lanes) (told : AreLanes o entries tasks p clocks) where
   -- the step of its task in front
   module _ (legal : AreLegal entries) (b : ℕ) (prev : previous tasks p ≡ suc b) (same : number tasks b ≡ number tasks p) where
-    record Goes : Type 0 where
-      low : b < p
-      origins : origin tasks p ≡ origin tasks b
-      mine : both_at of_one entries p b ≡ true
-      newest : (x : ℕ) → x < p → both_at touches entries p x ≡ true → x ≤ b
+    pub record Goes : Type 0 where
+      pub low : b < p
+      pub origins : origin tasks p ≡ origin tasks b
+      pub mine : both_at of_one entries p b ≡ true
+      pub newest : (x : ℕ) → x < p → both_at touches entries p x ≡ true → x ≤ b
 
-    goes : Goes
+    pub goes : Goes
     goes = by (are.behind p w)
       where
         by : Behind entries tasks p → Goes

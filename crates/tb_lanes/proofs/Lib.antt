@@ -3,6 +3,8 @@ pub mod AskedLemmas
 pub mod BoundLemmas
 pub mod ClockLemmas
 pub mod EndLemmas
+pub mod FewerLemmas
+pub mod FewerTableLemmas
 pub mod FrontLemmas
 pub mod GroupLemmas
 pub mod JoinLemmas

@@ -63,12 +63,33 @@ pub sound_same : (o : Order) (entries : List Entry) (tasks : Tasks) (clocks : La
 sound_same o entries tasks clocks row next k p same = subst (λ r. IsSound o entries tasks clocks r k p) (fun_ext same)
 
 -- each of the first n, and that at n
-each : (n : ℕ) (P : ℕ → Type 0) → ((p : ℕ) → p < n → P p) → P n → (p : ℕ) → p < n + 1 → P p
+pub each : (n : ℕ) (P : ℕ → Type 0) → ((p : ℕ) → p < n → P p) → P n → (p : ℕ) → p < n + 1 → P p
 each n P old here p l = by (cases_eq p n)
   where
     by : (p ≡ n) ⊎ (p ≢ n) → P p
     by (inl e) = subst P (sym e) here
     by (inr d) = old p (omega (arith, l, d))
+
+-- ---- one step more, as it is stored
+
+module _ (old new : Clocks) (row k n : ℕ) (one : IsOneMore old row k n new) (listed : length old.of.items ≡ n) (laned : length old.lanes.items ≡ n) where
+  pub of_here : slice_index_or new.of.items n 0 ≡ row
+  of_here = ap₂ (λ (xs : List ℕ) (m : ℕ). get_or xs m 0) one.of (sym listed) ∙ get_or-append_seam old.of.items row [] 0
+
+  pub of_kept : (p : ℕ) → p < n → slice_index_or new.of.items p 0 ≡ slice_index_or old.of.items p 0
+  of_kept p l = ap (λ (xs : List ℕ). get_or xs p 0) one.of ∙ get_or_append_left old.of.items (row ∷ []) 0 p (omega (arith, l, listed))
+
+  pub lane_here : lane (lanes_of new) n ≡ k
+  lane_here = ap₂ (λ (xs : List ℕ) (m : ℕ). get_or xs m 0) one.lanes (sym laned) ∙ get_or-append_seam old.lanes.items k [] 0
+
+  pub lane_kept : (p : ℕ) → p < n → lane (lanes_of new) p ≡ lane (lanes_of old) p
+  lane_kept p l = ap (λ (xs : List ℕ). get_or xs p 0) one.lanes ∙ get_or_append_left old.lanes.items (k ∷ []) 0 p (omega (arith, l, laned))
+
+  pub row_here : row_of_step new n ≡ row_in old.rows.items row
+  row_here = ap₂ row_in one.rows of_here
+
+  pub row_same : (p : ℕ) → p < n → row_of_step new p ≡ row_of_step old p
+  row_same p l = ap₂ row_in one.rows (of_kept p l)
 
 module _ (o : Order) (entries : List Entry) (tasks : Tasks) (n : ℕ) where
   -- ---- one row more, where nothing goes by it yet
@@ -167,31 +188,13 @@ module _ (o : Order) (entries : List Entry) (tasks : Tasks) (n : ℕ) where
       }
 
   module _ (old new : Clocks) (row k : ℕ) (one : IsOneMore old row k n new) (stands : IsStanding o entries tasks old row k n) (are : AreClocks o entries tasks n old) where
-    of_here : slice_index_or new.of.items n 0 ≡ row
-    of_here = ap₂ (λ (xs : List ℕ) (m : ℕ). get_or xs m 0) one.of (sym are.listed) ∙ get_or-append_seam old.of.items row [] 0
-
-    of_kept : (p : ℕ) → p < n → slice_index_or new.of.items p 0 ≡ slice_index_or old.of.items p 0
-    of_kept p l = ap (λ (xs : List ℕ). get_or xs p 0) one.of ∙ get_or_append_left old.of.items (row ∷ []) 0 p (omega (arith, l, are.listed))
-
-    lane_here : lane (lanes_of new) n ≡ k
-    lane_here = ap₂ (λ (xs : List ℕ) (m : ℕ). get_or xs m 0) one.lanes (sym are.laned) ∙ get_or-append_seam old.lanes.items k [] 0
-
-    lane_kept : (p : ℕ) → p < n → lane (lanes_of new) p ≡ lane (lanes_of old) p
-    lane_kept p l = ap (λ (xs : List ℕ). get_or xs p 0) one.lanes ∙ get_or_append_left old.lanes.items (k ∷ []) 0 p (omega (arith, l, are.laned))
-
-    row_here : row_of_step new n ≡ row_in old.rows.items row
-    row_here = ap₂ row_in one.rows of_here
-
-    row_same : (p : ℕ) → p < n → row_of_step new p ≡ row_of_step old p
-    row_same p l = ap₂ row_in one.rows (of_kept p l)
-
     pub clocks_more : AreClocks o entries tasks (n + 1) new
     clocks_more = record {
       listed = ap length one.of ∙ length-append old.of.items (row ∷ []) ∙ ap (λ m. m + 1) are.listed;
       laned = ap length one.lanes ∙ length-append old.lanes.items (k ∷ []) ∙ ap (λ m. m + 1) are.laned;
-      within = each n (λ p. slice_index_or new.of.items p 0 ≤ length new.rows.items) (λ p l. omega (arith, of_kept p l, are.within p l, ap length one.rows)) (omega (arith, of_here, stands.within, ap length one.rows));
-      rising = each n (λ p. IsRising (row_of_step new p)) (λ p l. subst IsRising (sym (row_same p l)) (are.rising p l)) (subst IsRising (sym row_here) stands.rising);
-      lanes = lanes_more (lanes_of old) (lanes_of new) (bound_in (row_in old.rows.items row)) k lane_here lane_kept (ap bound_in row_here) (λ p l. ap bound_in (row_same p l)) stands.clock stands.low stands.lane are.lanes
+      within = each n (λ p. slice_index_or new.of.items p 0 ≤ length new.rows.items) (λ p l. omega (arith, of_kept old new row k n one are.listed are.laned p l, are.within p l, ap length one.rows)) (omega (arith, (of_here old new row k n one are.listed are.laned), stands.within, ap length one.rows));
+      rising = each n (λ p. IsRising (row_of_step new p)) (λ p l. subst IsRising (sym (row_same old new row k n one are.listed are.laned p l)) (are.rising p l)) (subst IsRising (sym (row_here old new row k n one are.listed are.laned)) stands.rising);
+      lanes = lanes_more (lanes_of old) (lanes_of new) (bound_in (row_in old.rows.items row)) k (lane_here old new row k n one are.listed are.laned) (lane_kept old new row k n one are.listed are.laned) (ap bound_in (row_here old new row k n one are.listed are.laned)) (λ p l. ap bound_in (row_same old new row k n one are.listed are.laned p l)) stands.clock stands.low stands.lane are.lanes
           one.within one.more one.last one.others;
     }
 

@@ -5,3 +5,4 @@ pub mod Linking
 pub mod Numbering
 pub mod Rows
 pub mod Needing
+pub mod Fewer

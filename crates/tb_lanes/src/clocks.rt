@@ -1,11 +1,12 @@
 //! What an order puts in front of each step of a history.
 
-ghost use Rattle.std.specs.Prelude.{◌≡◌, ◌<◌, ◌≤◌, ℕ, List, length};
+ghost use Rattle.std.specs.Prelude.{◌≡◌, ◌<◌, ◌≤◌, ℕ, List, Bool, length, IsTrue};
 ghost use Rattle.tb_steps.specs.Entries.{Entry};
 ghost use Rattle.tb_races.specs.Orders.{Order};
 ghost use Rattle.tb_lanes.specs.Clocks as is;
 ghost use Rattle.tb_lanes.specs.Clocks.{AreTasks, AreClocks, IsShaped, kept_in, lane, lanes_of, row_at, row_in, row_of_step};
 ghost use Rattle.tb_lanes.specs.Bounds.{IsRising};
+ghost use Rattle.tb_lanes.specs.Fewer.{AreFewer};
 
 use crate::bounds::bound;
 use crate::lane_bound::LaneBound;
@@ -32,9 +33,13 @@ pub fn reaches(tasks: &Tasks, clocks: &Clocks, late: usize, early: usize) -> boo
     requires laned { length clocks.now.lanes.items ≡ length clocks.now.of.items }
     requires late { late < length clocks.now.of.items }
     requires early { early ≤ late }
-    ensures { (o : Order) (entries : List Entry) (n : ℕ) → AreTasks entries tasks.now
+    ensures same { (o : Order) (entries : List Entry) (n : ℕ) → AreTasks entries tasks.now
         → AreClocks o entries tasks.now n clocks.now → late < n
         → result ≡ is.reaches o entries late early }
+    ensures fewer { (asked : ℕ → Bool) (o : Order) (entries : List Entry) (n : ℕ)
+        → AreTasks entries tasks.now → AreFewer asked o entries tasks.now n clocks.now → late < n
+        → (IsTrue result → IsTrue (is.reaches o entries late early))
+        × (IsTrue (asked early) → result ≡ is.reaches o entries late early) }
 {
     let mut at = late;
     'up: while early <= at {

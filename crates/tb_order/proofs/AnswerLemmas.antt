@@ -33,7 +33,8 @@ module _ (entries : List Entry) (at : ℕ) (x : Entry) (within : at < length ent
   more : history_of (take (at + 1) entries) ≡ x.event ∷ F
   more = history_more entries at x within here
 
-  pub races_more : (o : Option Race) → ((v : Entry) → slice_get entries at ≡ Some v → o ≡ race_of F v.event) → (found : List Race) → found ≡ reverse (races F) → found ++ option_to_list o ≡ reverse (races (history_of (take (at + 1) entries)))
+  pub races_more : (o : Option Race) → ((v : Entry) → slice_get entries at ≡ Some v → o ≡ race_of F v.event) → (found : List Race) → found ≡ reverse (races F)
+      → found ++ option_to_list o ≡ reverse (races (history_of (take (at + 1) entries)))
   races_more o h found so_far =
       ap₂ (λ f p. f ++ option_to_list p) so_far (h x read)
       ∙ sym (reverse_more (race_of F x.event) (races F))

@@ -62,7 +62,8 @@ module _ (front : List Entry) (v : Event) where
     told_here : told front v p ≡ cause F v K x.event
     told_here = ap (told_so F v K) (slice_get_read front (length front) p x refl within here)
 
-    way_of : {A B : Type 0} (f : A → B) (b : Bool) (o : Option A) → is_some (cond b None (option_map f o)) ≡ true → cond b None (option_map f o) ≡ option_map f o
+    way_of : {A B : Type 0} (f : A → B) (b : Bool) (o : Option A) → is_some (cond b None (option_map f o)) ≡ true
+        → cond b None (option_map f o) ≡ option_map f o
     way_of f true o h = absurd (false≢true h)
     way_of f false o h = refl
 
@@ -78,14 +79,16 @@ module _ (front : List Entry) (v : Event) where
     has_kind near =
         unmapped (as_cause (step_of K x.event)) (need_kind F v x.event) (ap is_some (sym (told_here ∙ kinded near)) ∙ near)
 
-    pub told_as : is_some (told front v p) ≡ true → (kind : NeedKind) → need_kind F v x.event ≡ Some kind → (id : StepId) → step_at front p ≡ Some id → told front v p ≡ Some (record { kind = kind; step = id })
+    pub told_as : is_some (told front v p) ≡ true → (kind : NeedKind) → need_kind F v x.event ≡ Some kind → (id : StepId) → step_at front p ≡ Some id
+        → told front v p ≡ Some (record { kind = kind; step = id })
     told_as near kind k id named =
         told_here ∙ kinded near
         ∙ ap₂ (λ i o. option_map (as_cause i) o) (some_same _ _ (sym (step_read front p x within here) ∙ named)) k
 
   -- ---- all of them
 
-  near_told : (n : ℕ) → n ≤ length front → map (told front v) (nearest F v (history_of (take n front))) ≡ some_causes (immediate F v (history_of (take n front)))
+  near_told : (n : ℕ) → n ≤ length front
+      → map (told front v) (nearest F v (history_of (take n front))) ≡ some_causes (immediate F v (history_of (take n front)))
   near_told zero l = refl
   near_told (suc n) l =
       let w = there front n (omega (arith, l)) in
@@ -96,7 +99,8 @@ module _ (front : List Entry) (v : Event) where
       ∙ by n K (cause F v K w.0.event) (told_here n w.0 (omega (arith, l)) w.1) (near_told n (omega (arith, l)))
       ∙ sym (ap (λ H. some_causes (immediate F v H)) more)
     where
-      by : (m : ℕ) (G : History) (o : Option Cause) → told front v m ≡ o → map (told front v) (nearest F v G) ≡ some_causes (immediate F v G) → map (told front v) (prepend_if (is_some o) m (nearest F v G)) ≡ some_causes (option_to_list o ++ immediate F v G)
+      by : (m : ℕ) (G : History) (o : Option Cause) → told front v m ≡ o → map (told front v) (nearest F v G) ≡ some_causes (immediate F v G)
+          → map (told front v) (prepend_if (is_some o) m (nearest F v G)) ≡ some_causes (option_to_list o ++ immediate F v G)
       by m G (Some c) h rest = ap₂ (λ o os. o ∷ os) h rest
       by m G None h rest = rest
 
@@ -108,7 +112,8 @@ module _ (front : List Entry) (v : Event) where
       whole : map (told front v) (nearest F v F) ≡ some_causes (immediate F v F)
       whole = subst (λ (es : List Entry). map (told front v) (nearest F v (history_of es)) ≡ some_causes (immediate F v (history_of es))) (take_all (length front) front (omega arith)) (near_told (length front) (omega arith))
 
-  pub causes_told : (places : List ℕ) → places ≡ reverse (nearest F v F) → (causes : List Cause) → some_causes causes ≡ map (told front v) places → causes ≡ reverse (immediate F v F)
+  pub causes_told : (places : List ℕ) → places ≡ reverse (nearest F v F) → (causes : List Cause) → some_causes causes ≡ map (told front v) places
+      → causes ≡ reverse (immediate F v F)
   causes_told places are causes h = same_causes causes (reverse (immediate F v F)) (h ∙ places_told places are)
 
   -- each of them is listed

@@ -20,7 +20,8 @@ use Rattle.tb_races.proofs.KindLemmas.{kind_some}
 use Rattle.tb_races.proofs.PassLemmas.{any_put, put_here, put_rest}
 use Rattle.tb_order.specs.AllNeeds.{AreDirect, IsDirect}
 use Rattle.tb_lanes.specs.Clocks.{is_after, links_at, reaches}
-use Rattle.tb_lanes.specs.Needing.{IsAmong, place_at}
+use Rattle.tb_lanes.specs.Needing.{place_at}
+use Rattle.tb_order.specs.Needed.{IsAmong}
 use Rattle.tb_lanes.proofs.AfterLemmas.{after_is, after_links, at, at_is, links_is, low, same_at, step_place}
 use Rattle.tb_lanes.proofs.FrontLemmas.{one_more}
 use Rattle.tb_steps.proofs.ScanLemmas.{count_front}
@@ -96,14 +97,16 @@ module _ (entries : List Entry) where
         (λ a. let f = between P n (omega (arith, l)) a in record { x = f.x; front = omega (arith, f.front); inside_x = f.inside_x; passes = f.passes; behind = f.behind })
         (any_put P (is_needer e (H n) v) v (needing e (H n)) (subst (λ G. list_any P (needing e G) ≡ true) more h))
 
-    needed : (P : Event → Bool) (n x : ℕ) → x < n → n ≤ length entries → (i : x < length entries) → P (ev x i) ≡ true → is_after AllNeeds entries x q ≡ true → (is_step e (H x) (ev x i) ≡ false) → list_any P (needing e (H n)) ≡ true
+    needed : (P : Event → Bool) (n x : ℕ) → x < n → n ≤ length entries → (i : x < length entries) → P (ev x i) ≡ true → is_after AllNeeds entries x q ≡ true
+        → (is_step e (H x) (ev x i) ≡ false) → list_any P (needing e (H n)) ≡ true
     needed P zero x l m i h a other = absurd (omega (arith, l))
     needed P (suc n) x l m i h a other =
         let w : n < length entries = omega (arith, m) in
         let more = one_more entries n (at AllNeeds entries n w) w (at_is AllNeeds entries n w) in
         subst (λ G. list_any P (needing e G) ≡ true) (sym more) (by (λ l m. needed P n x l m i h a other) (cases_eq x n) w)
       where
-        by : (x < n → n ≤ length entries → list_any P (needing e (H n)) ≡ true) → (x ≡ n) ⊎ (x ≢ n) → (w : n < length entries) → list_any P (prepend_if (is_needer e (H n) (ev n w)) (ev n w) (needing e (H n))) ≡ true
+        by : (x < n → n ≤ length entries → list_any P (needing e (H n)) ≡ true) → (x ≡ n) ⊎ (x ≢ n) → (w : n < length entries)
+            → list_any P (prepend_if (is_needer e (H n) (ev n w)) (ev n w) (needing e (H n))) ≡ true
         by on (inl s) w =
             subst (λ y. (j : y < length entries) → list_any P (prepend_if (is_needer e (H y) (ev y j)) (ev y j) (needing e (H y))) ≡ true) s
             (λ j. put_here P (is_needer e (H x) (ev x j)) (ev x j) (needing e (H x))
@@ -193,7 +196,8 @@ module _ (entries : List Entry) where
     top n x xs is (zero, m, s) = s
     top n x xs is (suc i, m, s) = absurd (omega (arith, is.falling 0 (suc i) (omega arith) m, s, is.below 0 (omega arith)))
 
-    step : (n : ℕ) (l : suc n ≤ p) → ((places : List ℕ) → Lists n places → places ≡ nearest (H p) v (H n)) → (places : List ℕ) → Lists (suc n) places → (b : Bool) → is_cause n l ≡ b → places ≡ prepend_if (is_cause n l) n (nearest (H p) v (H n))
+    step : (n : ℕ) (l : suc n ≤ p) → ((places : List ℕ) → Lists n places → places ≡ nearest (H p) v (H n)) → (places : List ℕ) → Lists (suc n) places
+        → (b : Bool) → is_cause n l ≡ b → places ≡ prepend_if (is_cause n l) n (nearest (H p) v (H n))
     step n l on places is false e =
         on places (less n places is (λ d. both_ways _ e (cause_direct n (omega (arith, l, w)) p w (omega (arith, l)) d)))
         ∙ ap (λ c. prepend_if c n (nearest (H p) v (H n))) (sym e)

@@ -31,7 +31,9 @@ module _ (entries : List Entry) (tasks : Tasks) (past : Past) (k p : ℕ) where
   }
 
   -- one end more
-  pub joins_one : (a b c : Joined) (s : ℕ) → JoinsMore entries tasks past k p a b → AreRising c.rows.items → IsSound (order_of past.exclusion) entries tasks (lanes_of past.clocks) (bound_among c.rows.items) k p → ((q : ℕ) → q < p → IsTold entries tasks past k p b q → IsTold entries tasks past k p c q)
+  pub joins_one : (a b c : Joined) (s : ℕ) → JoinsMore entries tasks past k p a b → AreRising c.rows.items
+      → IsSound (order_of past.exclusion) entries tasks (lanes_of past.clocks) (bound_among c.rows.items) k p
+      → ((q : ℕ) → q < p → IsTold entries tasks past k p b q → IsTold entries tasks past k p c q)
       → IsJoined (order_of past.exclusion) entries tasks (lanes_of past.clocks) (bound_among c.rows.items) k p s → (y : ℕ) → (y ≡ s) ⊎ (b.end ≡ Some y) → c.end ≡ Some y
       → c.ends.items ≡ b.ends.items ++ s ∷ [] → links_at (order_of past.exclusion) entries p s ≡ true
       → ((q : ℕ) → q < p → IsTold entries tasks past k p c q → IsTold entries tasks past k p b q ⊎ (reaches (order_of past.exclusion) entries s q ≡ true)) → JoinsMore entries tasks past k p a c

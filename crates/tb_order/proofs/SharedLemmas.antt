@@ -12,7 +12,8 @@ use Rattle.tb_races.specs.Kinds.{shared, end_kind}
 use Rattle.tb_races.specs.Orders.{AllNeeds, counts_some, links}
 use Rattle.tb_lanes.specs.Clocks.{links_at, reaches}
 use Rattle.tb_lanes.specs.Kept.{in_so, is_in, is_in_at, is_load, loads_at, loads_so, shares_at, slot_of}
-use Rattle.tb_lanes.specs.Needing.{IsBelow, Shares}
+use Rattle.tb_lanes.specs.Needing.{IsBelow}
+use Rattle.tb_order.specs.Needed.{Shares}
 use Rattle.tb_lanes.proofs.AfterLemmas.{at, at_read, links_is, linked_on, reaches_so}
 use Rattle.tb_lanes.proofs.FrontLemmas.{entry_read}
 use Rattle.tb_lanes.proofs.KeptLemmas.{shares_by_number}
@@ -24,7 +25,8 @@ use Rattle.tb_lanes.proofs.SharingLemmas.{in_no_slot, in_slot}
 pub link_shared : (H : History) (v u : Event) → is_some (shared v.action u.action) ≡ true → links AllNeeds H v u ≡ true
 link_shared H v u h = by (is_of v.task u) (spawns v.task u) (shared v.action u.action) h
   where
-    by : (a b : Bool) (s : Option Conflict) → is_some s ≡ true → counts_some AllNeeds (cond a (Some Task) (cond b (Some Spawn) (option_or (option_map Conflicts s) (cond (is_end u.action) (end_kind H v.task v.action u.task) None)))) ≡ true
+    by : (a b : Bool) (s : Option Conflict) → is_some s ≡ true
+        → counts_some AllNeeds (cond a (Some Task) (cond b (Some Spawn) (option_or (option_map Conflicts s) (cond (is_end u.action) (end_kind H v.task v.action u.task) None)))) ≡ true
     by true b s h = refl
     by false true s h = refl
     by false false (Some c) h = refl
@@ -59,6 +61,8 @@ module _ (entries : List Entry) (n : ℕ) (w : n < length entries) (x : Entry) (
     loads_in = λ j l. let h = is.loads_in j l in (omega (arith, h.0), h.1);
     by_writes = λ y l h s. is.by_writes y (below y l h) h s;
     by_loads = λ y l h s. is.by_loads y (below y l h) h s;
+    new_writes = λ j y l m k h. is.new_writes j y l m (below y k h) h;
+    new_loads = λ j y l m k h. is.new_loads j y l m (below y k h) h;
   }
     where
       below : (y : ℕ) → y < n + 1 → is_in_at entries i y ≡ true → y < n
@@ -74,7 +78,8 @@ module _ (entries : List Entry) (n : ℕ) (w : n < length entries) (x : Entry) (
     shares : (y : ℕ) → y < n → shares_at entries n y ≡ (is_in_at entries i y && (not (loads_at entries n) || not (loads_at entries y)))
     shares = shares_by_number AllNeeds entries n w i (ap (λ (e : Entry). slot_of e.event.action) same_step ∙ slot)
 
-    pub shares_rest : (writes loads new_writes new_loads : ℕ → List ℕ) → ((j : ℕ) → Shares entries n j (writes j) (loads j)) → Shares entries (n + 1) i (new_writes i) (new_loads i)
+    pub shares_rest : (writes loads new_writes new_loads : ℕ → List ℕ) → ((j : ℕ) → Shares entries n j (writes j) (loads j))
+        → Shares entries (n + 1) i (new_writes i) (new_loads i)
         → ((j : ℕ) → j ≢ i → new_writes j ≡ writes j) → ((j : ℕ) → j ≢ i → new_loads j ≡ loads j) → (j : ℕ) → Shares entries (n + 1) j (new_writes j) (new_loads j)
     shares_rest writes loads new_writes new_loads are at_i same_writes same_loads j = by (cases_eq j i)
       where
@@ -85,7 +90,8 @@ module _ (entries : List Entry) (n : ℕ) (w : n < length entries) (x : Entry) (
             (subst (λ ys. Shares entries (n + 1) j (writes j) ys) (sym (same_loads j d)) (shares_other j (writes j) (loads j) (in_is j ∙ in_slot x.event.action i j slot ∙ ne_eqb j i d) (are j)))
 
     -- a load comes next to the others
-    pub load_shares : is_load x.event.action ≡ true → (writes loads : List ℕ) → Shares entries n i writes loads → Shares entries (n + 1) i writes (loads ++ n ∷ [])
+    pub load_shares : is_load x.event.action ≡ true → (writes loads : List ℕ) → Shares entries n i writes loads
+        → Shares entries (n + 1) i writes (loads ++ n ∷ [])
     load_shares h writes loads is = record {
       writes_in = λ j l. let g = is.writes_in j l in (omega (arith, g.0), g.1, g.2);
       loads_in = each_more loads (loads ++ n ∷ []) n refl (λ y. (y < n + 1) × (is_in_at entries i y ≡ true)) (λ j l. let g = is.loads_in j l in (omega (arith, g.0), g.1)) (omega arith, here_in);
@@ -93,7 +99,14 @@ module _ (entries : List Entry) (n : ℕ) (w : n < length entries) (x : Entry) (
       by_loads = λ y l g s.
           ⊎_elim (λ e. inr (below_last AllNeeds entries loads (loads ++ n ∷ []) n refl y (reaches_so AllNeeds entries n y (inl (sym e)))))
           (λ d. ⊎_elim (λ b. inl b) (λ b. inr (below_more AllNeeds entries loads (loads ++ n ∷ []) n refl y b)) (is.by_loads y (omega (arith, l, d)) g s)) (cases_eq y n);
+      new_writes = λ j y l m k g. on (λ d. is.new_writes j y l m d g) (cases_eq y n) k;
+      new_loads = λ j y l m k g.
+          on (λ d. each_more loads (loads ++ n ∷ []) n refl (λ z. z < y → loads_at entries y ≡ true) (λ i a b. is.new_loads i y a b d g) (λ b. absurd (omega (arith, b, d))) j l m) (cases_eq y n) k;
     }
+      where
+        on : {y : ℕ} → (y < n → loads_at entries y ≡ true) → (y ≡ n) ⊎ (y ≢ n) → y < n + 1 → loads_at entries y ≡ true
+        on f (inl e) k = ap (loads_at entries) e ∙ load_is ∙ h
+        on f (inr d) k = f (omega (arith, k, d))
 
     -- a store or a print comes after them
     pub write_shares : is_load x.event.action ≡ false → (writes loads : List ℕ) → Shares entries n i writes loads → Shares entries (n + 1) i (n ∷ []) []
@@ -102,6 +115,8 @@ module _ (entries : List Entry) (n : ℕ) (w : n < length entries) (x : Entry) (
       loads_in = λ j l. absurd (omega (arith, l));
       by_writes = λ y l g s. below y l g;
       by_loads = λ y l g s. inl (below y l g);
+      new_writes = λ j y l m k g. each_more [] (n ∷ []) n refl (λ z. z < y → loads_at entries y ≡ true) (λ i a. absurd (omega (arith, a))) (λ b. absurd (omega (arith, b, k))) j l m;
+      new_loads = λ j y l. absurd (omega (arith, l));
     }
       where
         open_side : (b : Bool) → (not (loads_at entries n) || b) ≡ true

@@ -1,5 +1,5 @@
 -- What a step needs immediately, by the steps that it is linked to.
-use Rattle.std.proofs.Common.{Vec, Global, ◌≡◌, ◌<◌, ◌≤◌, ◌+◌, ◌==◌, ◌++◌, [], ℕ, List, Bool, true, false, not, ◌&&◌, ◌||◌, take, cond, Option, Some, None, is_some, length, filter, refl, sym, ap, ap₂, ◌∙◌, subst, arith, ◌⊎◌, inl, inr, ⊎_elim, eqb-true}
+use Rattle.std.proofs.Common.{◌≡◌, ◌<◌, ◌++◌, [], ℕ, List, Bool, true, false, not, ◌&&◌, ◌||◌, take, cond, Option, Some, None, is_some, length, filter, refl, sym, ap, ap₂, ◌∙◌, subst, arith, ◌⊎◌, inl, inr, ⊎_elim}
 use Rattle.std.specs.Option.{option_or}
 use Rattle.std.proofs.lemmas.Bool.{and_parts, both_ways, cases_eq, cases_lt, false≢true, false_from_ne_true, or_cases, or_left, or_right}
 use Rattle.tb_model.specs.declared.action.Action.{Action}
@@ -14,23 +14,23 @@ use Rattle.tb_races.specs.Kinds.{end_kind, need_kind, some_if, wait_kind}
 use Rattle.tb_races.specs.Orders.{AllNeeds, WithExclusion, counts_some}
 use Rattle.tb_lanes.specs.declared.tasks.Tasks.{Tasks}
 use Rattle.tb_lanes.specs.declared.clocks.Clocks.{Clocks}
-use Rattle.tb_lanes.specs.declared.lane_bound.LaneBound.{LaneBound}
 use Rattle.tb_lanes.specs.declared.kept.Kept.{Kept}
 use Rattle.tb_lanes.specs.declared.step.Step.{Step}
-use Rattle.tb_order.specs.AllNeeds.{AreDirect, GoesBehind, IsMade}
-use Rattle.tb_lanes.specs.Bounds.{IsRising, bound_in}
-use Rattle.tb_lanes.specs.Clocks.{AreClocks, AreTasks, GoesOn, IsClock, IsLane, IsOneMore, IsSound, TellsEnds, both_at, is_after, is_end_at, is_told, kept_in, lanes_of, links_at, reaches, touches}
+use Rattle.tb_order.specs.AllNeeds.{AreDirect}
+use Rattle.tb_lanes.specs.Clocks.{AreTasks, Lanes, both_at, is_after, is_end_at, kept_in, links_at, reaches, touches}
+use Rattle.tb_lanes.specs.Fewer.{AreFewer, BeginsFor, lanes_with}
 use Rattle.tb_lanes.specs.Kept.{is_in_at, is_load, loads_at, loads_so, shares_at, shares_so, slot_of}
-use Rattle.tb_lanes.specs.Needing.{AreCandidates, AreNeeded, AreShared, FindsEnds, IsAmong, IsBegun, IsBelow, IsEndBefore, IsOwn, IsRowFound, IsTouched, TellsShared, is_known, own_row, place_at, places_so, shared_places}
-use Rattle.tb_lanes.proofs.AfterLemmas.{After, at, at_read, by_way, direct, links_is, reach_on, reached, reaches_so, same_at}
+use Rattle.tb_lanes.specs.Needing.{FindsEnds, IsBelow, IsTouched, place_at}
+use Rattle.tb_order.specs.Needed.{AreCandidates, AreNeeded, AreShared, IsAmong, IsBegun, IsMet, is_known, is_pending, places_so, shared_places}
+use Rattle.tb_lanes.proofs.AfterLemmas.{After, after_links, at, at_read, by_way, direct, first_link, links_is, reached, reaches_so, same_at}
 use Rattle.tb_order.proofs.DirectLemmas.{all_count}
 use Rattle.tb_lanes.proofs.KeptLemmas.{shares_by_number}
 use Rattle.tb_lanes.proofs.LinkLemmas.{end_is, end_links, link_cases_at, touch_links_at}
 use Rattle.tb_order.proofs.SharedLemmas.{link_shared_at}
 use Rattle.tb_lanes.proofs.SharingLemmas.{shared_none}
-use Rattle.tb_lanes.proofs.SoundLemmas.{clock_told, first_reaches, first_touches, reached_low, told_touch}
-use Rattle.tb_lanes.proofs.LaneLemmas.{stands_in}
-use Rattle.tb_lanes.proofs.TableLemmas.{clocks_kept, clocks_more, stands_by}
+use Rattle.tb_lanes.proofs.SoundLemmas.{first_reaches, first_touches, reached_low}
+use Rattle.tb_order.proofs.NeededLemmas.{further, met_on}
+use Rattle.tb_order.proofs.PendingLemmas.{end_pending, uncovered_pending}
 use Rattle.tb_order.proofs.WalkedLemmas.{among_both, among_filter, among_left, among_right, filter_among}
 use Rattle.tb_steps.proofs.FirstLemmas.{there}
 
@@ -40,21 +40,25 @@ up_count : (k : Option NeedKind) → counts_some WithExclusion k ≡ true → co
 up_count None h = h
 up_count (Some k) h = all_count (Some k)
 
-some_if_down : (b : Bool) (k : NeedKind) → counts_some WithExclusion (Some k) ≡ true → is_some (some_if b k) ≡ true → counts_some WithExclusion (some_if b k) ≡ true
+some_if_down : (b : Bool) (k : NeedKind) → counts_some WithExclusion (Some k) ≡ true → is_some (some_if b k) ≡ true
+    → counts_some WithExclusion (some_if b k) ≡ true
 some_if_down true k c h = c
 some_if_down false k c h = h
 
-or_down : (o p : Option NeedKind) → (is_some o ≡ true → counts_some WithExclusion o ≡ true) → (is_some p ≡ true → counts_some WithExclusion p ≡ true) → is_some (option_or o p) ≡ true → counts_some WithExclusion (option_or o p) ≡ true
+or_down : (o p : Option NeedKind) → (is_some o ≡ true → counts_some WithExclusion o ≡ true) → (is_some p ≡ true → counts_some WithExclusion p ≡ true)
+    → is_some (option_or o p) ≡ true → counts_some WithExclusion (option_or o p) ≡ true
 or_down (Some k) p f g h = f refl
 or_down None p f g h = g h
 
 wait_down : (H : History) (t : Name) (a : Action) (u : Name) → is_some (wait_kind H t a u) ≡ true → counts_some WithExclusion (wait_kind H t a u) ≡ true
-wait_down H t Start u h = or_down (some_if (before H u t) Before) (some_if (apart H u t) Apart) (some_if_down (before H u t) Before refl) (some_if_down (apart H u t) Apart refl) h
+wait_down H t Start u h =
+    or_down (some_if (before H u t) Before) (some_if (apart H u t) Apart) (some_if_down (before H u t) Before refl) (some_if_down (apart H u t) Apart refl) h
 wait_down H t (Waits items) u h = some_if_down (covers H t items u) Wait refl h
 wait_down H t Close u h = some_if_down (is_member (own t H) u) Group refl h
 wait_down H t _ u h = absurd (false≢true h)
 
-end_down : (H : History) (t : Name) (a : Action) (u : Name) → counts_some AllNeeds (end_kind H t a u) ≡ true → counts_some WithExclusion (end_kind H t a u) ≡ true
+end_down : (H : History) (t : Name) (a : Action) (u : Name) → counts_some AllNeeds (end_kind H t a u) ≡ true
+    → counts_some WithExclusion (end_kind H t a u) ≡ true
 end_down H t a u h =
     or_down (wait_kind H t a u) (some_if (holds (own t H) u) Undeferred) (wait_down H t a u) (some_if_down (holds (own t H) u) Undeferred refl)
     (sym (all_count (end_kind H t a u)) ∙ h)
@@ -64,7 +68,9 @@ module _ (entries : List Entry) where
   H n = history_of (take n entries)
 
   pub links_up : (p x : ℕ) → p < length entries → x < length entries → links_at WithExclusion entries p x ≡ true → links_at AllNeeds entries p x ≡ true
-  links_up p x w i h = links_is AllNeeds entries p x w i ∙ up_count (need_kind (H p) (at AllNeeds entries p w).event (at AllNeeds entries x i).event) (sym (links_is WithExclusion entries p x w i) ∙ h)
+  links_up p x w i h =
+      links_is AllNeeds entries p x w i ∙ up_count (need_kind (H p) (at AllNeeds entries p w).event (at AllNeeds entries x i).event)
+      (sym (links_is WithExclusion entries p x w i) ∙ h)
 
   after_up : {p q : ℕ} → After WithExclusion entries p q → After AllNeeds entries p q
   after_up (direct o es p q l w h) = direct AllNeeds entries p q l w (links_up p q w (omega (arith, l, w)) h)
@@ -73,13 +79,15 @@ module _ (entries : List Entry) where
   pub reaches_up : (p q : ℕ) → p < length entries → q < length entries → reaches WithExclusion entries p q ≡ true → reaches AllNeeds entries p q ≡ true
   reaches_up p q w i h = reaches_so AllNeeds entries p q (⊎_elim (λ e. inl e) (λ a. inr (after_up a)) (reached WithExclusion entries p q w i h))
 
-  end_link_down : (p x : ℕ) → p < length entries → x < length entries → is_end_at entries x ≡ true → links_at AllNeeds entries p x ≡ true → links_at WithExclusion entries p x ≡ true
+  end_link_down : (p x : ℕ) → p < length entries → x < length entries → is_end_at entries x ≡ true → links_at AllNeeds entries p x ≡ true
+      → links_at WithExclusion entries p x ≡ true
   end_link_down p x w i e h =
       let v = (at AllNeeds entries p w).event in
       let u = (at AllNeeds entries x i).event in
       let end = sym (end_is AllNeeds entries p x w i) ∙ e in
       links_is WithExclusion entries p x w i ∙ end_links WithExclusion (H p) v u end
-      ∙ ⊎_elim (λ a. or_left _ _ a) (λ a. or_right _ _ (end_down (H p) v.task v.action u.task a)) (or_cases _ _ (sym (end_links AllNeeds (H p) v u end) ∙ sym (links_is AllNeeds entries p x w i) ∙ h))
+      ∙ ⊎_elim (λ a. or_left _ _ a) (λ a. or_right _ _ (end_down (H p) v.task v.action u.task a))
+      (or_cases _ _ (sym (end_links AllNeeds (H p) v u end) ∙ sym (links_is AllNeeds entries p x w i) ∙ h))
 
   -- ---- by the steps of a list
 
@@ -93,14 +101,10 @@ module _ (entries : List Entry) where
   below_some xs q h = (h.1.0, h.1.1, subst (λ y. reaches AllNeeds entries y q ≡ true) (sym h.1.2) h.2)
 
   module _ (p : ℕ) (w : p < length entries) where
-    further : (y x q : ℕ) → y < p → x < p → q < p → reaches AllNeeds entries y x ≡ true → reaches AllNeeds entries x q ≡ true → reaches AllNeeds entries y q ≡ true
-    further y x q l m n a b =
-        reaches_so AllNeeds entries y q
-        (reach_on AllNeeds entries y x q (reached AllNeeds entries y x (omega (arith, l, w)) (omega (arith, m, w)) a) (reached AllNeeds entries x q (omega (arith, m, w)) (omega (arith, n, w)) b))
-
     -- ---- the ends, and what is shared
 
-    module _ (ends : List ℕ) (finds : FindsEnds WithExclusion entries p ends) (kept : Kept) (are_shared : AreShared entries p kept) (a : Action) (a_is : a ≡ (at AllNeeds entries p w).event.action) where
+    module _ (ends : List ℕ) (finds : FindsEnds WithExclusion entries p ends) (kept : Kept) (are_shared : AreShared entries p kept) (a : Action)
+        (a_is : a ≡ (at AllNeeds entries p w).event.action) where
       abbrev sources : List ℕ
       sources = ends ++ shared_places kept a
 
@@ -121,10 +125,13 @@ module _ (entries : List Entry) where
         by_number = shares_by_number AllNeeds entries p w i (ap slot_of (sym a_is) ∙ slot)
 
         write_among : (y : ℕ) → IsAmong writes y → IsAmong sources y
-        write_among y h = among_right ends (shared_places kept a) y (subst (λ xs. IsAmong xs y) (sym shared_are) (among_left writes (cond (is_load a) [] loads) y h))
+        write_among y h =
+            among_right ends (shared_places kept a) y (subst (λ xs. IsAmong xs y) (sym shared_are) (among_left writes (cond (is_load a) [] loads) y h))
 
         load_among : is_load a ≡ false → (y : ℕ) → IsAmong loads y → IsAmong sources y
-        load_among e y h = among_right ends (shared_places kept a) y (subst (λ xs. IsAmong xs y) (sym shared_are) (among_right writes (cond (is_load a) [] loads) y (subst (λ b. IsAmong (cond b [] loads) y) (sym e) h)))
+        load_among e y h =
+            among_right ends (shared_places kept a) y
+            (subst (λ xs. IsAmong xs y) (sym shared_are) (among_right writes (cond (is_load a) [] loads) y (subst (λ b. IsAmong (cond b [] loads) y) (sym e) h)))
 
         shared_source : (x : ℕ) → x < p → shares_at entries p x ≡ true → Reaches sources x
         shared_source x l h = by (loads_at entries x) refl
@@ -145,9 +152,12 @@ module _ (entries : List Entry) where
                 ((are_shared i).by_loads x l parts.0 e)
 
         each_shared : (y : ℕ) → IsAmong (shared_places kept a) y → (y < p) × (links_at AllNeeds entries p y ≡ true)
-        each_shared y h = ⊎_elim (λ c. of_writes c) (λ c. of_loads (is_load a) refl c) (among_both writes (cond (is_load a) [] loads) y (subst (λ xs. IsAmong xs y) shared_are h))
+        each_shared y h =
+            ⊎_elim (λ c. of_writes c) (λ c. of_loads (is_load a) refl c)
+            (among_both writes (cond (is_load a) [] loads) y (subst (λ xs. IsAmong xs y) shared_are h))
           where
-            linked : y < p → is_in_at entries i y ≡ true → (not (loads_at entries p) || not (loads_at entries y)) ≡ true → (y < p) × (links_at AllNeeds entries p y ≡ true)
+            linked : y < p → is_in_at entries i y ≡ true → (not (loads_at entries p) || not (loads_at entries y)) ≡ true
+                → (y < p) × (links_at AllNeeds entries p y ≡ true)
             linked l e f = (l, link_shared_at entries p y l w (by_number y l ∙ ap₂ (λ b c. b && c) e f))
 
             open_side : (b : Bool) → (b || true) ≡ true
@@ -158,7 +168,8 @@ module _ (entries : List Entry) where
             of_writes c =
                 let g = (are_shared i).writes_in c.0 c.1 in
                 let none : loads_at entries y ≡ false = subst (λ z. loads_at entries z ≡ false) c.2 g.2 in
-                linked (subst (λ z. z < p) c.2 g.0) (subst (λ z. is_in_at entries i z ≡ true) c.2 g.1) (ap (λ b. not (loads_at entries p) || not b) none ∙ open_side (not (loads_at entries p)))
+                linked (subst (λ z. z < p) c.2 g.0) (subst (λ z. is_in_at entries i z ≡ true) c.2 g.1)
+                (ap (λ b. not (loads_at entries p) || not b) none ∙ open_side (not (loads_at entries p)))
 
             of_loads : (b : Bool) → is_load a ≡ b → IsAmong (cond (is_load a) [] loads) y → (y < p) × (links_at AllNeeds entries p y ≡ true)
             of_loads true e c = absurd (none (subst (λ b. IsAmong (cond b [] loads) y) e c))
@@ -168,7 +179,27 @@ module _ (entries : List Entry) where
             of_loads false e c =
                 let d = subst (λ b. IsAmong (cond b [] loads) y) e c in
                 let g = (are_shared i).loads_in d.0 d.1 in
-                linked (subst (λ z. z < p) d.2 g.0) (subst (λ z. is_in_at entries i z ≡ true) d.2 g.1) (ap (λ b. not b || not (loads_at entries y)) (load_is ∙ e))
+                linked (subst (λ z. z < p) d.2 g.0) (subst (λ z. is_in_at entries i z ≡ true) d.2 g.1)
+                (ap (λ b. not b || not (loads_at entries y)) (load_is ∙ e))
+
+        -- for each of them a later step may ask
+        shared_pending : (tasks : Tasks) (y : ℕ) → IsAmong (shared_places kept a) y → is_pending entries tasks p y ≡ true
+        shared_pending tasks y h =
+            ⊎_elim (λ c. of_writes c) (λ c. of_loads (is_load a) c) (among_both writes (cond (is_load a) [] loads) y (subst (λ xs. IsAmong xs y) shared_are h))
+          where
+            of_writes : IsAmong writes y → is_pending entries tasks p y ≡ true
+            of_writes c =
+                subst (λ z. is_pending entries tasks p z ≡ true) c.2
+                (uncovered_pending entries tasks (place_at writes c.0) p i ((are_shared i).writes_in c.0 c.1).1 (λ x l m h. (are_shared i).new_writes c.0 x c.1 l m h))
+
+            of_loads : (b : Bool) → IsAmong (cond b [] loads) y → is_pending entries tasks p y ≡ true
+            of_loads true c = absurd (none c)
+              where
+                none : IsAmong [] y → ⊥
+                none h = omega (arith, h.1)
+            of_loads false c =
+                subst (λ z. is_pending entries tasks p z ≡ true) c.2
+                (uncovered_pending entries tasks (place_at loads c.0) p i ((are_shared i).loads_in c.0 c.1).1 (λ x l m h. (are_shared i).new_loads c.0 x c.1 l m h))
 
       no_slot : slot_of a ≡ None → (x : ℕ) → x < p → shares_at entries p x ≡ true → ⊥
       no_slot none x l h =
@@ -193,10 +224,25 @@ module _ (entries : List Entry) where
               let y = place_at ends b.0 in
               inr (y, among_left ends (shared_places kept a) y (b.0, b.1, refl), reaches_up y x (omega (arith, (finds.each b.0 b.1).0, w)) i b.2)
 
-          by : (both_at touches entries p x ≡ true) ⊎ ((is_end_at entries x ≡ true) ⊎ ((true ≡ true) × (shares_at entries p x ≡ true))) → IsTouched AllNeeds entries p x ⊎ Reaches sources x
+          by : (both_at touches entries p x ≡ true) ⊎ ((is_end_at entries x ≡ true) ⊎ ((true ≡ true) × (shares_at entries p x ≡ true)))
+              → IsTouched AllNeeds entries p x ⊎ Reaches sources x
           by (inl t) = inl (x, l, t, reaches_so AllNeeds entries x x (inl refl))
           by (inr (inl e)) = of_end (finds.all x (l, e, end_link_down p x w i e h))
           by (inr (inr s)) = inr (share (slot_of a) refl s.1)
+
+      -- for each a later step may ask
+      pub pending_source : (tasks : Tasks) (y : ℕ) → IsAmong sources y → is_pending entries tasks p y ≡ true
+      pending_source tasks y h = ⊎_elim of_ends (λ c. of_shared (slot_of a) refl c) (among_both ends (shared_places kept a) y h)
+        where
+          of_ends : IsAmong ends y → is_pending entries tasks p y ≡ true
+          of_ends c = end_pending entries tasks y p (subst (λ z. is_end_at entries z ≡ true) c.2 (finds.each c.0 c.1).1)
+
+          of_shared : (s : Option ℕ) → slot_of a ≡ s → IsAmong (shared_places kept a) y → is_pending entries tasks p y ≡ true
+          of_shared None e c = absurd (none (subst (λ s. IsAmong (places_so kept s (is_load a)) y) e c))
+            where
+              none : IsAmong [] y → ⊥
+              none h = omega (arith, h.1)
+          of_shared (Some k) e c = shared_pending k e tasks y c
 
       -- and the step is linked to each
       pub each_source : (y : ℕ) → IsAmong sources y → (y < p) × (links_at AllNeeds entries p y ≡ true)
@@ -223,11 +269,15 @@ module _ (entries : List Entry) (tasks : Tasks) (clocks : Clocks) (s : Step) (be
   abbrev w : p < length entries
   w = begun.at
 
+  abbrev full : Lanes
+  full = lanes_with clocks begun.front.bounds
+
   -- what touches the task reaches no further than the newest that does
   touched_on : (y x : ℕ) → y < p → x < p → IsTouched AllNeeds entries p y → reaches AllNeeds entries y x ≡ true → IsTouched AllNeeds entries p x
   touched_on y x l m t r = (t.0, t.1, t.2, further entries p w t.0 y x t.1 l m t.3 r)
 
-  module _ (ends : List ℕ) (finds : FindsEnds WithExclusion entries p ends) (kept : Kept) (are_shared : AreShared entries p kept) (a : Action) (a_is : a ≡ (at AllNeeds entries p w).event.action) where
+  module _ (ends : List ℕ) (finds : FindsEnds WithExclusion entries p ends) (kept : Kept) (are_shared : AreShared entries p kept) (a : Action)
+      (a_is : a ≡ (at AllNeeds entries p w).event.action) where
     abbrev all : List ℕ
     all = sources entries p w ends finds kept are_shared a a_is
 
@@ -237,45 +287,52 @@ module _ (entries : List Entry) (tasks : Tasks) (clocks : Clocks) (s : Step) (be
     pub low_source : (i : ℕ) → i < length all → place_at all i < p
     low_source i l = (each_source entries p w ends finds kept are_shared a a_is (place_at all i) (i, l, refl)).0
 
+    pub asked_source : (i : ℕ) → i < length all → is_pending entries tasks p (place_at all i) ≡ true
+    asked_source i l = pending_source entries p w ends finds kept are_shared a a_is tasks (place_at all i) (i, l, refl)
+
     not_true : (b : Bool) → not b ≡ true → b ≡ false
     not_true true h = absurd (false≢true h)
     not_true false h = refl
 
-    pub are_candidates : AreCandidates entries tasks clocks s found
+    pub are_candidates : AreCandidates entries tasks p found
     are_candidates c h =
         let f = among_filter (λ q. not (is_known entries tasks clocks s q)) all c h in
         let g = each_source entries p w ends finds kept are_shared a a_is c f.0 in
-        (g.0, g.1, not_true (is_known entries tasks clocks s c) f.1)
+        let asked = pending_source entries p w ends finds kept are_shared a a_is tasks c f.0 in
+        (g.0, g.1, asked, λ t. both_ways (is_known entries tasks clocks s c) (not_true (is_known entries tasks clocks s c) f.1) (begun.begins.enough c g.0 asked t))
 
     -- whatever the step is linked to is reached from one of them, or by what touches its task
     pub covered : (x : ℕ) → x < p → links_at AllNeeds entries p x ≡ true → IsTouched AllNeeds entries p x ⊎ Reaches entries found x
-    covered x l h = ⊎_elim (λ t. inl t) (λ r. by r.0 r.1 r.2 (is_known entries tasks clocks s r.0) refl) (sourced entries p w ends finds kept are_shared a a_is x l h)
+    covered x l h =
+        ⊎_elim (λ t. inl t) (λ r. by r.0 r.1 r.2 (is_known entries tasks clocks s r.0) refl) (sourced entries p w ends finds kept are_shared a a_is x l h)
       where
-        by : (y : ℕ) → IsAmong all y → reaches AllNeeds entries y x ≡ true → (b : Bool) → is_known entries tasks clocks s y ≡ b → IsTouched AllNeeds entries p x ⊎ Reaches entries found x
-        by y m r true e = let low = (each_source entries p w ends finds kept are_shared a a_is y m).0 in inl (touched_on y x low l (begun.own y low e) r)
+        by : (y : ℕ) → IsAmong all y → reaches AllNeeds entries y x ≡ true → (b : Bool) → is_known entries tasks clocks s y ≡ b
+            → IsTouched AllNeeds entries p x ⊎ Reaches entries found x
+        by y m r true e =
+            let low = (each_source entries p w ends finds kept are_shared a a_is y m).0 in inl (touched_on y x low l (begun.begins.sound y low e) r)
         by y m r false e = inr (y, filter_among (λ q. not (is_known entries tasks clocks s q)) all y m (ap not e), r)
 
-    -- ---- what a row says
+    -- ---- what the step comes after is met
 
-    module _ (row : ℕ → ℕ) (so : IsSound AllNeeds entries tasks (lanes_of clocks) row s.lane p) (tells : (c : ℕ) → IsAmong found c → is_told AllNeeds entries tasks (lanes_of clocks) row s.lane p c ≡ true) where
-      on : (y x : ℕ) → y < p → x < p → is_told AllNeeds entries tasks (lanes_of clocks) row s.lane p y ≡ true → reaches AllNeeds entries y x ≡ true → is_told AllNeeds entries tasks (lanes_of clocks) row s.lane p x ≡ true
-      on y x l m t r = ⊎_elim (λ e. subst (λ z. is_told AllNeeds entries tasks (lanes_of clocks) row s.lane p z ≡ true) (eqb-true y x e) t) (λ b. so.closed y x l m t b) (or_cases (y == x) (is_after AllNeeds entries y x) r)
+    found_low : (i : ℕ) → i < length found → place_at found i < p
+    found_low i l = (are_candidates (place_at found i) (i, l, refl)).0
 
-      pub links_told : (x : ℕ) → x < p → links_at AllNeeds entries p x ≡ true → is_told AllNeeds entries tasks (lanes_of clocks) row s.lane p x ≡ true
-      links_told x l h =
-          ⊎_elim
-          (λ t. on t.0 x t.1 l (told_touch AllNeeds entries tasks begun.by_task p w (lanes_of clocks) begun.front.lanes s.lane begun.lane.own row so t.0 t.1 (omega (arith, t.1, w)) t.2 (begun.by_task.behind p w)) t.3)
-          (λ r. on r.0 x (are_candidates r.0 r.1).0 l (tells r.0 r.1) r.2)
-          (covered x l h)
+    met_linked : (x : ℕ) → x < p → links_at AllNeeds entries p x ≡ true → IsMet entries p found x
+    met_linked x l h = ⊎_elim (λ t. inl t) (λ r. inr (below_some entries found x r)) (covered x l h)
+
+    pub after_met : (q : ℕ) → q < p → is_after AllNeeds entries p q ≡ true → IsMet entries p found q
+    after_met q l h =
+        let f = first_link (after_links AllNeeds entries p q w (omega (arith, l, w)) h) in
+        met_on entries p w found found_low f.0 q f.1 l (met_linked f.0 f.1 f.2) (reaches_so AllNeeds entries f.0 q f.3)
 
     -- ---- what is needed
 
-    module _ (places : List ℕ) (needed : AreNeeded entries tasks clocks s found places) where
+    module _ (places : List ℕ) (needed : AreNeeded entries tasks p found places) where
       below : (x : ℕ) → x < p → links_at AllNeeds entries p x ≡ true → Reaches entries places x
       below x l h =
           ⊎_elim
           (λ t.
-          let f = first_reaches AllNeeds entries tasks begun.by_task p w (lanes_of clocks) begun.front.lanes t.0 t.1 t.2 in
+          let f = first_reaches AllNeeds entries tasks begun.by_task p w full begun.front.lanes t.0 t.1 t.2 in
           let b = some_below entries places f.0 (needed.covered f.0 (inr f.1)) in
           (b.0, b.1, further entries p w b.0 f.0 x (place_low b.0 b.1) f.2 l b.2 (further entries p w f.0 t.0 x f.2 t.1 l (reaches_so AllNeeds entries f.0 t.0 f.3) t.3)))
           (λ r.
@@ -286,18 +343,19 @@ module _ (entries : List Entry) (tasks : Tasks) (clocks : Clocks) (s : Step) (be
           place_low : (y : ℕ) → IsAmong places y → y < p
           place_low y m =
               subst (λ z. z < p) m.2
-              (⊎_elim (λ c. (are_candidates (place_at places m.0) c).0) (λ c. (first_touches AllNeeds entries tasks begun.by_task p w (lanes_of clocks) begun.front.lanes (place_at places m.0) c).0) (needed.each m.0 m.1))
+              (⊎_elim (λ c. (are_candidates (place_at places m.0) c).0) (λ c. (first_touches AllNeeds entries tasks begun.by_task p w full begun.front.lanes (place_at places m.0) c).0) (needed.each m.0 m.1))
 
       linked_place : (i : ℕ) → i < length places → (place_at places i < p) × (links_at AllNeeds entries p (place_at places i) ≡ true)
       linked_place i l =
           ⊎_elim (λ c. let g = are_candidates (place_at places i) c in (g.0, g.1))
           (λ c.
-          let t = first_touches AllNeeds entries tasks begun.by_task p w (lanes_of clocks) begun.front.lanes (place_at places i) c in
+          let t = first_touches AllNeeds entries tasks begun.by_task p w full begun.front.lanes (place_at places i) c in
           (t.0, touch_links_at AllNeeds entries p (place_at places i) w (omega (arith, t.0, w)) t.1))
           (needed.each i l)
 
       -- one that reaches another of them is the other
-      one : (i j : ℕ) → i < length places → j < length places → reaches AllNeeds entries (place_at places j) (place_at places i) ≡ true → place_at places j ≡ place_at places i
+      one : (i j : ℕ) → i < length places → j < length places → reaches AllNeeds entries (place_at places j) (place_at places i) ≡ true
+          → place_at places j ≡ place_at places i
       one i j l m r =
           let a = (linked_place i l).0 in
           let b = (linked_place j m).0 in
@@ -308,7 +366,8 @@ module _ (entries : List Entry) (tasks : Tasks) (clocks : Clocks) (s : Step) (be
 
       same_place : (y x : ℕ) → y < p → x < p → reaches AllNeeds entries y x ≡ true → reaches AllNeeds entries x y ≡ true → y ≡ x
       same_place y x l m a b =
-          omega (arith, reached_low AllNeeds entries y x (reached AllNeeds entries y x (omega (arith, l, w)) (omega (arith, m, w)) a), reached_low AllNeeds entries x y (reached AllNeeds entries x y (omega (arith, m, w)) (omega (arith, l, w)) b))
+          omega
+          (arith, reached_low AllNeeds entries y x (reached AllNeeds entries y x (omega (arith, l, w)) (omega (arith, m, w)) a), reached_low AllNeeds entries x y (reached AllNeeds entries x y (omega (arith, m, w)) (omega (arith, l, w)) b))
 
       pub are_direct : AreDirect entries p places
       are_direct = record {
@@ -333,72 +392,21 @@ module _ (entries : List Entry) (tasks : Tasks) (clocks : Clocks) (s : Step) (be
             (cases_eq b.0 q);
       }
 
-    -- ---- the clocks, one step more
-
-    module _ (behind : Option ℕ) (end : (x : ℕ) → behind ≡ Some x → IsEndBefore WithExclusion entries p x) (lane : ℕ) (goes : GoesBehind (lanes_of clocks) s.lane behind lane) where
-      module _ (row : List LaneBound) (so : IsSound AllNeeds entries tasks (lanes_of clocks) (bound_in row) s.lane p) (tells : (c : ℕ) → IsAmong found c → is_told AllNeeds entries tasks (lanes_of clocks) (bound_in row) s.lane p c ≡ true) where
-        ends_told : TellsEnds AllNeeds entries tasks (lanes_of clocks) (bound_in row) s.lane p
-        ends_told x l e h = links_told (bound_in row) so tells x l h
-
-        shares_told : TellsShared AllNeeds entries tasks (lanes_of clocks) (bound_in row) s.lane p
-        shares_told c x l h = links_told (bound_in row) so tells x l (link_shared_at entries p x l w h)
-
-        clock : IsClock AllNeeds entries tasks (lanes_of clocks) (bound_in row) s.lane p
-        clock = clock_told AllNeeds entries tasks begun.by_task p w (lanes_of clocks) begun.front.lanes s.lane begun.lane.own (bound_in row) so ends_told shares_told
-
-        goes_on : GoesOn AllNeeds entries tasks (lanes_of clocks) (bound_in row) s.lane p lane
-        goes_on = by goes
-          where
-            by : GoesBehind (lanes_of clocks) s.lane behind lane → GoesOn AllNeeds entries tasks (lanes_of clocks) (bound_in row) s.lane p lane
-            by (inl e) = inl e
-            by (inr h) =
-                let x = h.0 in
-                let b = end x h.1 in
-                let i : x < length entries = omega (arith, b.0, w) in
-                inr (x, (b.0, b.1, sym (clock x b.0) ∙ reaches_up entries p x w i (or_right (p == x) _ b.2)), h.2, h.3, h.4)
-
-        pub stands : IsClock AllNeeds entries tasks (lanes_of clocks) (bound_in row) lane p × IsLane entries (lanes_of clocks) lane p
-        stands = stands_in AllNeeds entries tasks begun.by_task p w (lanes_of clocks) begun.front.lanes (bound_in row) s.lane lane begun.lane so ends_told shares_told goes_on
-
-      pub clocks_taken : (made : Option (Vec LaneBound Global)) → IsRowFound entries tasks clocks s found made → (mid : Clocks) (n : ℕ) → IsMade clocks s.row made mid n → (new : Clocks) → IsOneMore mid n lane p new → AreClocks AllNeeds entries tasks (p + 1) new
-      clocks_taken None none mid n is new one =
-          let st = stands (own_row clocks s) begun.sound (λ c h. absurd (omega (arith, (subst (λ xs. IsAmong xs c) none h).1))) in
-          clocks_more AllNeeds entries tasks p clocks new s.row lane (subst (λ m. IsOneMore clocks m lane p new) is.1 (subst (λ m. IsOneMore m n lane p new) is.0 one)) (record {
-            within = begun.within;
-            rising = begun.rising;
-            clock = st.0;
-            low = begun.sound.low;
-            lane = st.1;
-          }) begun.front
-      clocks_taken (Some v) f mid n is new one =
-          let st = stands v.items f.sound f.told in
-          let kept_clocks = clocks_kept AllNeeds entries tasks p clocks mid.rows v is.0 begun.front in
-          clocks_more AllNeeds entries tasks p (with_rows mid.rows) new n lane (subst (λ m. IsOneMore m n lane p new) same one) (stands_by AllNeeds entries tasks p clocks mid.rows v is.0 begun.front n lane is.4 f.rising st.0 f.sound.low st.1) kept_clocks
-        where
-          with_rows : Vec (Vec LaneBound Global) Global → Clocks
-          with_rows rows = record { of = clocks.of; rows = rows; lanes = clocks.lanes; lasts = clocks.lasts }
-
-          with_all : Vec ℕ Global → Vec ℕ Global → Vec ℕ Global → Clocks
-          with_all a b d = record { of = a; rows = mid.rows; lanes = b; lasts = d }
-
-          same : mid ≡ with_rows mid.rows
-          same = ap (λ a. with_all a mid.lanes mid.lasts) is.1 ∙ ap (λ b. with_all clocks.of b mid.lasts) is.2 ∙ ap (with_all clocks.of clocks.lanes) is.3
-
 -- ---- the step with which it begins
 
-pub begun_of : (entries : List Entry) (tasks : Tasks) (clocks : Clocks) (s : Step) (n : ℕ) → s.at ≡ n → AreTasks entries tasks → AreClocks AllNeeds entries tasks n clocks → n < length entries → s.row ≤ length clocks.rows.items → IsRising (own_row clocks s)
-    → IsSound AllNeeds entries tasks (lanes_of clocks) (bound_in (own_row clocks s)) s.lane n → IsLane entries (lanes_of clocks) s.lane n → IsOwn AllNeeds entries tasks (lanes_of clocks) (bound_in (own_row clocks s)) s.lane n → IsBegun entries tasks clocks s
-begun_of entries tasks clocks s n e are told w within rising sound lane own = record {
+pub begun_of : (entries : List Entry) (tasks : Tasks) (clocks : Clocks) (s : Step) (n : ℕ) → s.at ≡ n → AreTasks entries tasks
+    → AreFewer (is_pending entries tasks n) AllNeeds entries tasks n clocks → n < length entries
+    → BeginsFor (is_pending entries tasks n) AllNeeds entries tasks clocks s.row s.lane n → IsBegun entries tasks clocks s
+begun_of entries tasks clocks s n e are told w begins = record {
   by_task = are;
-  front = subst (λ m. AreClocks AllNeeds entries tasks m clocks) (sym e) told;
+  front = subst (λ m. AreFewer (is_pending entries tasks m) AllNeeds entries tasks m clocks) (sym e) told;
   at = omega (arith, e, w);
-  within = within;
-  rising = rising;
-  sound = subst (IsSound AllNeeds entries tasks (lanes_of clocks) (bound_in (own_row clocks s)) s.lane) (sym e) sound;
-  lane = subst (IsLane entries (lanes_of clocks) s.lane) (sym e) lane;
-  own = subst (IsOwn AllNeeds entries tasks (lanes_of clocks) (bound_in (own_row clocks s)) s.lane) (sym e) own;
+  begins = subst (λ m. BeginsFor (is_pending entries tasks m) AllNeeds entries tasks clocks s.row s.lane m) (sym e) begins;
 }
 
 -- the action at an index, by whatever shows that it is one
-pub action_at : (entries : List Entry) (m n : ℕ) → m ≡ n → (w : m < length entries) (i : n < length entries) (a : Action) → a ≡ (there entries n i).0.event.action → a ≡ (at AllNeeds entries m w).event.action
-action_at entries m n e w i a h = h ∙ subst (λ k. (j : k < length entries) → (there entries n i).0.event.action ≡ (at AllNeeds entries k j).event.action) (sym e) (λ j. ap (λ (v : Entry). v.event.action) (same_at entries n i j)) w
+pub action_at : (entries : List Entry) (m n : ℕ) → m ≡ n → (w : m < length entries) (i : n < length entries) (a : Action)
+    → a ≡ (there entries n i).0.event.action → a ≡ (at AllNeeds entries m w).event.action
+action_at entries m n e w i a h =
+    h ∙ subst (λ k. (j : k < length entries) → (there entries n i).0.event.action ≡ (at AllNeeds entries k j).event.action) (sym e)
+    (λ j. ap (λ (v : Entry). v.event.action) (same_at entries n i j)) w

@@ -5,7 +5,8 @@ use Rattle.std.proofs.lemmas.Bool.{cases_eq}
 use Rattle.std.proofs.lemmas.List.{get_or_default}
 use Rattle.std.proofs.lemmas.List.Elements.{Contains-append_left, Contains-append_right}
 use Rattle.std.proofs.lemmas.List.Sorted.{Contains-permutation, IsPermutation-sym}
-use Rattle.tb_lanes.specs.Needing.{IsAmong, place_at}
+use Rattle.tb_lanes.specs.Needing.{place_at}
+use Rattle.tb_order.specs.Needed.{IsAmong}
 use Rattle.tb_order.specs.Walked.{IsWalked, first_places}
 
 pub among_of : (xs : List ℕ) (q : ℕ) → Contains xs q → IsAmong xs q
@@ -44,7 +45,8 @@ among_filter f (x ∷ xs) q h = by (λ i. among_filter f xs q i) (f x) refl h
     more : (IsAmong (filter f xs) q → IsAmong xs q × (f q ≡ true)) → IsAmong (filter f xs) q → IsAmong (x ∷ xs) q × (f q ≡ true)
     more on h = let r = on h in ((suc r.0.0, omega (arith, r.0.1), r.0.2), r.1)
 
-    by : (IsAmong (filter f xs) q → IsAmong xs q × (f q ≡ true)) → (b : Bool) → f x ≡ b → IsAmong (cond b (x ∷ filter f xs) (filter f xs)) q → IsAmong (x ∷ xs) q × (f q ≡ true)
+    by : (IsAmong (filter f xs) q → IsAmong xs q × (f q ≡ true)) → (b : Bool) → f x ≡ b → IsAmong (cond b (x ∷ filter f xs) (filter f xs)) q
+        → IsAmong (x ∷ xs) q × (f q ≡ true)
     by on false e h = more on h
     by on true e (zero, l, s) = ((0, omega arith, s), ap f (sym s) ∙ e)
     by on true e (suc i, l, s) = more on (i, omega (arith, l), s)
@@ -72,7 +74,8 @@ first_of first q h = by (cases_eq first 0)
 of_first : (first q : ℕ) → first ≡ suc q → IsAmong (first_places first) q
 of_first first q e = subst (λ b. IsAmong (cond b [] ((first - 1) ∷ [])) q) (sym (ne_eqb first 0 (λ z. omega (arith, z, e)))) (0, omega arith, omega (arith, e))
 
-pub walked : (found : List ℕ) (first : ℕ) (all order : List ℕ) → all ≡ found ++ first_places first → IsPermutation all order → IsNonDecreasingBy (λ x. x) order → IsWalked found first order
+pub walked : (found : List ℕ) (first : ℕ) (all order : List ℕ) → all ≡ found ++ first_places first → IsPermutation all order
+    → IsNonDecreasingBy (λ x. x) order → IsWalked found first order
 walked found first all order e moved up = record {
   each = λ i l.
       let back = among_of all (place_at order i) (Contains-permutation order all (place_at order i) (IsPermutation-sym all order moved) (of_among order (place_at order i) (at_among order i l))) in

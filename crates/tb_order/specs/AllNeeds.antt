@@ -7,16 +7,23 @@ use Rattle.std.specs.declared.alloc.Global.{Global}
 use Rattle.tb_order.specs.declared.needs.Needs.{Needs}
 use Rattle.tb_lanes.specs.declared.clocks.Clocks.{Clocks}
 use Rattle.tb_lanes.specs.declared.lane_bound.LaneBound.{LaneBound}
-use Rattle.tb_lanes.specs.Clocks.{AreClocks, Lanes, lane, links_at, reaches}
-use Rattle.tb_lanes.specs.Needing.{AreShared, IsAmong, place_at}
+use Rattle.tb_lanes.specs.Clocks.{Lanes, lane, lanes_of, links_at, reaches}
+use Rattle.tb_lanes.specs.Fewer.{AreFewer}
+use Rattle.tb_lanes.specs.Needing.{place_at}
 use Rattle.tb_lanes.specs.Rows.{IsPast}
+use Rattle.tb_order.specs.Needed.{AreShared, IsAmong, is_pending}
+use Rattle.tb_order.specs.Pending.{ArePending, IsLinked}
 
 -- the order is that of the first n steps
 pub record AreNeeds (entries : List Entry) (tasks : Tasks) (n : ℕ) (needs : Needs) : Type 0 where
   pub past : IsPast entries tasks needs.past n
   pub strict : needs.past.exclusion ≡ true
-  pub clocks : AreClocks AllNeeds entries tasks n needs.clocks
+  pub clocks : AreFewer (is_pending entries tasks n) AllNeeds entries tasks n needs.clocks
   pub shared : AreShared entries n needs.kept
+  pub linked : IsLinked needs.pending
+  pub listed : length needs.pending.until.items ≡ length entries
+  pub pending : ArePending entries tasks n n (lane (lanes_of needs.clocks)) needs.pending
+  pub counted : length needs.pending.firsts.items ≡ length needs.clocks.lasts.items
 
 -- the step at p needs that at q directly, and no other that it needs so needs that one
 pub record IsDirect (entries : List Entry) (p q : ℕ) : Type 0 where

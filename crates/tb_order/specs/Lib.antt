@@ -1,4 +1,7 @@
-pub mod Told
-pub mod Edges
-pub mod Walked
 pub mod AllNeeds
+pub mod Edges
+pub mod Gathered
+pub mod Needed
+pub mod Pending
+pub mod Told
+pub mod Walked

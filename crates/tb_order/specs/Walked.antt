@@ -7,8 +7,9 @@ use Rattle.tb_lanes.specs.declared.clocks.Clocks.{Clocks}
 use Rattle.tb_lanes.specs.declared.step.Step.{Step}
 use Rattle.tb_order.specs.declared.needing.Needed.{Needed}
 use Rattle.tb_lanes.specs.Bounds.{AreRising, bound_among}
-use Rattle.tb_lanes.specs.Clocks.{IsSound, is_told, lanes_of, previous}
-use Rattle.tb_lanes.specs.Needing.{AreApart, IsAmong, IsBelow, IsCandidate, is_known, place_at}
+use Rattle.tb_lanes.specs.Clocks.{IsLow, is_told, lanes_of, previous}
+use Rattle.tb_lanes.specs.Needing.{place_at}
+use Rattle.tb_order.specs.Needed.{AreApart, IsAmong, IsCandidate, IsMet, is_pending}
 
 -- the index in front of first, none where that is 0
 abbrev pub first_places : ℕ → List ℕ
@@ -21,19 +22,21 @@ pub record IsWalked (found : List ℕ) (first : ℕ) (order : List ℕ) : Type 0
   pub rising : (i j : ℕ) → i ≤ j → j < length order → place_at order i ≤ place_at order j
 
 -- the rows have q
-abbrev pub is_met : List Entry → Tasks → Clocks → Step → Needed → ℕ → Type 0
-is_met entries tasks clocks s needed q = IsTrue (is_told AllNeeds entries tasks (lanes_of clocks) (bound_among needed.rows.items) s.lane s.at q)
+abbrev pub has_row : List Entry → Tasks → Clocks → Step → Needed → ℕ → Type 0
+has_row entries tasks clocks s needed q = IsTrue (is_told AllNeeds entries tasks (lanes_of clocks) (bound_among needed.rows.items) s.lane s.at q)
 
--- what was found so far is apart, and the rows have it and what is in front of it
+-- what was found so far is apart, and the rows tell of it and what is in front of it
 pub record IsSoFar (entries : List Entry) (tasks : Tasks) (clocks : Clocks) (s : Step) (needed : Needed) : Type 0 where
   pub rising : AreRising needed.rows.items
-  pub sound : IsSound AllNeeds entries tasks (lanes_of clocks) (bound_among needed.rows.items) s.lane s.at
-  pub kept : (q : ℕ) → q < s.at → IsTrue (is_known entries tasks clocks s q) → is_met entries tasks clocks s needed q
-  pub from : (q : ℕ) → q < s.at → is_met entries tasks clocks s needed q → IsTrue (is_known entries tasks clocks s q) ⊎ IsBelow AllNeeds entries needed.places.items q
+  pub under : IsLow (bound_among needed.rows.items) s.at
+  pub sound : (q : ℕ) → q < s.at → has_row entries tasks clocks s needed q → IsMet entries s.at needed.places.items q
+  pub enough : (q : ℕ) → q < s.at → IsTrue (is_pending entries tasks s.at q) → IsMet entries s.at needed.places.items q
+      → has_row entries tasks clocks s needed q
   pub low : (i : ℕ) → i < length needed.places.items → place_at needed.places.items i < s.at
-  pub listed : (i : ℕ) → i < length needed.places.items → (previous tasks s.at ≡ suc (place_at needed.places.items i)) ⊎ is_met entries tasks clocks s needed (place_at needed.places.items i)
+  pub listed : (i : ℕ) → i < length needed.places.items
+      → (previous tasks s.at ≡ suc (place_at needed.places.items i)) ⊎ IsCandidate entries tasks s.at (place_at needed.places.items i)
   pub apart : AreApart entries needed.places.items
 
 -- the step may be needed: it touches the task, or it is a candidate
-abbrev pub IsOffered : List Entry → Tasks → Clocks → Step → ℕ → Type 0
-IsOffered entries tasks clocks s c = (previous tasks s.at ≡ suc c) ⊎ IsCandidate entries tasks clocks s c
+abbrev pub IsOffered : List Entry → Tasks → ℕ → ℕ → Type 0
+IsOffered entries tasks p c = (previous tasks p ≡ suc c) ⊎ IsCandidate entries tasks p c

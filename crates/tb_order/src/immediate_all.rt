@@ -7,7 +7,7 @@ ghost use Rattle.tb_races.specs.declared.cause.Cause.{Cause as ACause};
 ghost use Rattle.tb_lanes.specs.declared.tasks.Tasks.{Tasks as ATasks};
 ghost use Rattle.tb_order.specs.AllNeeds.{AreDirect, AreNeeds, GoesBehind, IsMade};
 ghost use Rattle.tb_lanes.specs.Clocks as is;
-ghost use Rattle.tb_lanes.specs.Clocks.{AreOrdinals, AreTasks, lanes_of};
+ghost use Rattle.tb_lanes.specs.Clocks.{AreOrdinals, AreTasks, IsShaped, lanes_of};
 ghost use Rattle.tb_order.specs.Edges;
 ghost use Rattle.tb_order.specs.Edges.{as_edge};
 ghost use Rattle.tb_lanes.specs.Needing.{place_at};
@@ -19,6 +19,7 @@ use crate::needing::{candidates, needed_among, untold};
 use crate::needs::Needs;
 use crate::numbering::tasks_of;
 use crate::ordinals::{named, ordinals_of};
+use crate::pending::{no_lanes, note_lane, pruned_row};
 use crate::sharing::note_shared;
 use crate::waiting::kind_at;
 use std::alloc::{AllocError, Global};
@@ -36,7 +37,7 @@ pub fn edges_among(alloc: Global, entries: &History<'_>) -> Result<Vec<Edge>, Al
     let tasks = tasks_of(alloc, entries)?;
     let ordinals = ordinals_of(alloc, entries, &tasks)?;
     let mut edges = Vec::new(alloc);
-    let mut needs = no_needs(alloc);
+    let mut needs = no_needs(alloc, &tasks)?;
     for at in 0..entries.len() {
         let mut places = take_step(&mut needs, entries, &tasks, at)?;
         places.reverse();
@@ -48,15 +49,19 @@ pub fn edges_among(alloc: Global, entries: &History<'_>) -> Result<Vec<Edge>, Al
 }
 
 /// Nothing is known of any step yet.
-fn no_needs(alloc: Global) -> Needs
-    ensures { (entries : List Entry) (tasks : ATasks) → AreNeeds entries tasks 0 result }
+fn no_needs(alloc: Global, tasks: &Tasks) -> Result<Needs, AllocError>
+    requires shaped { IsShaped tasks.now }
+    ensures { IfOk result (λ needs. (entries : List Entry) → AreTasks entries tasks.now
+        → AreNeeds entries tasks.now 0 needs) }
 {
-    Needs {
+    let pending = no_lanes(alloc, tasks)?;
+    Ok(Needs {
         alloc,
         past: nothing_past(alloc, true),
         clocks: no_clocks(alloc),
         kept: nothing(alloc),
-    }
+        pending,
+    })
 }
 
 /// Adds the step at this index, and returns those that it needs immediately, the newest first.
@@ -80,9 +85,18 @@ fn take_step(
     let found = untold(alloc, entries, tasks, &needs.clocks, &step, &may)?;
     let (made, places) = needed_among(alloc, entries, tasks, &needs.clocks, &step, found)?;
     let lane = lane_on(&needs.clocks, step.lane, behind);
-    let row = row_of(&mut needs.clocks, step.row, made)?;
-    add(&mut needs.clocks, &Step { at, row, lane })?;
     note_shared(&mut needs.kept, entries, at)?;
+    let left = pruned_row(
+        alloc,
+        &mut needs.pending,
+        entries,
+        &needs.kept,
+        made,
+        at + 1,
+    )?;
+    note_lane(&mut needs.pending, lane, at)?;
+    let row = row_of(&mut needs.clocks, step.row, left)?;
+    add(&mut needs.clocks, &Step { at, row, lane })?;
     Ok(places)
 }
 

@@ -15,6 +15,7 @@ mod needs;
 mod noting;
 mod numbering;
 mod ordinals;
+mod pending;
 mod racing;
 mod sharing;
 mod waiting;

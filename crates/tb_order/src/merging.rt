@@ -1,14 +1,16 @@
 //! The clocks of a history.
 
-ghost use Rattle.std.specs.Prelude.{◌≡◌, ◌≢◌, IfSome, ◌⊎◌, ◌<◌, ◌≤◌, ◌+◌, ◌||◌, ◌&&◌, ◌==◌, ℕ, List, Vec, Some, false, length, nat_lt, slice_index_or, IfOk, IsTrue, OnOk};
+ghost use Rattle.std.specs.Prelude.{◌≡◌, ◌≢◌, IfSome, ◌⊎◌, ◌<◌, ◌≤◌, ◌+◌, ◌||◌, ◌&&◌, ◌==◌, ℕ, Bool, List, Vec, Some, false, length, nat_lt, slice_index_or, IfOk, IsTrue, OnOk};
 ghost use Rattle.tb_steps.specs.Entries.{Entry};
 ghost use Rattle.tb_steps.specs.Scans.{AreLegal};
 ghost use Rattle.tb_races.specs.Orders.{Order};
 ghost use Rattle.tb_lanes.specs.Clocks as is;
 ghost use Rattle.tb_lanes.specs.Clocks.{AreClocks, AreEnds, AreTasks, GoesOn, IsLane, IsLow, IsOneMore, IsShaped, IsSound, IsStanding, adds, end_at, lane, lanes_of, links_at, number, row_in};
 ghost use Rattle.tb_lanes.specs.Bounds.{IsRising, bound_in};
+ghost use Rattle.tb_lanes.specs.Fewer.{AreFewer, BeginsFor};
 ghost use Rattle.tb_lanes.specs.Rows.{AreJoined, AreRows, IsNoted, IsPast, IsRow, IsTold, IsWaiting, JoinsMore, parent, starts_at};
 ghost use Rattle.tb_lanes.specs.Linking.{order_of};
+ghost use Rattle.tb_order.specs.Pending.{grown};
 ghost use Rattle.tb_lanes.specs.Needing.{FindsEnds, IsEndBefore, IsOwn};
 ghost use Rattle.tb_lanes.specs.declared.tasks.Tasks.{Tasks as ATasks};
 
@@ -27,8 +29,9 @@ use tb_lanes::{
 
 /// No clocks yet.
 pub fn no_clocks(alloc: Global) -> Clocks
-    ensures { (o : Order) (entries : List Entry) (tasks : ATasks) →
+    ensures clocks { (o : Order) (entries : List Entry) (tasks : ATasks) →
         AreClocks o entries tasks 0 result }
+    ensures none { length result.lasts.items ≡ 0 }
 {
     Clocks {
         of: Vec::new(alloc),
@@ -146,6 +149,9 @@ pub fn begin(tasks: &Tasks, clocks: &Clocks, at: usize) -> Step
         → AreTasks entries tasks.now → AreClocks o entries tasks.now at clocks.now
         → IsOwn o entries tasks.now (lanes_of clocks.now)
         (bound_in (row_in clocks.now.rows.items result.row)) result.lane at }
+    ensures fewer { (asked : ℕ → Bool) (o : Order) (entries : List Entry) → AreLegal entries
+        → AreTasks entries tasks.now → AreFewer asked o entries tasks.now at clocks.now
+        → BeginsFor asked o entries tasks.now clocks.now result.row result.lane at }
 {
     match step_before(tasks, at) {
         Some(before) => Step {
@@ -324,7 +330,10 @@ pub fn lane_behind(clocks: &Clocks, lane: usize, end: usize) -> usize
 /// Adds the step to the clocks.
 pub fn add(clocks: &mut Clocks, step: &Step) -> Result<(), AllocError>
     requires few { step.now.lane ≤ length clocks.old.lasts.items }
-    ensures { OnOk result (IsOneMore clocks.old step.now.row step.now.lane step.now.at clocks.new) }
+    ensures one { OnOk result
+        (IsOneMore clocks.old step.now.row step.now.lane step.now.at clocks.new) }
+    ensures count { OnOk result (length clocks.new.lasts.items
+        ≡ grown step.now.lane (length clocks.old.lasts.items)) }
 {
     clocks.of.push(step.row)?;
     clocks.lanes.push(step.lane)?;

@@ -1,11 +1,13 @@
 //! What a step needs immediately, found among the steps that it may.
 
-ghost use Rattle.std.specs.Prelude.{◌≡◌, ◌≢◌, ◌<◌, ◌≤◌, ◌⊎◌, ◌++◌, ◌∷◌, [], if◌then◌else◌, not, false, ℕ, List, suc, filter, length, slice_index_or, IfOk, IfSome, IfNone, IsTrue, IsFalse, OnOk};
+ghost use Rattle.std.specs.Prelude.{◌≡◌, ◌≢◌, ◌<◌, ◌≤◌, ◌⊎◌, ◌++◌, ◌∷◌, [], if◌then◌else◌, not, false, Bool, ℕ, List, suc, filter, length, slice_index_or, IfOk, IfSome, IfNone, IsTrue, IsFalse, OnOk};
 ghost use Rattle.tb_steps.specs.Entries.{Entry};
 ghost use Rattle.tb_races.specs.Orders.{AllNeeds};
 ghost use Rattle.tb_lanes.specs.Clocks as is;
-ghost use Rattle.tb_lanes.specs.Clocks.{AreTasks, AreClocks, IsShaped};
-ghost use Rattle.tb_lanes.specs.Needing.{AreCandidates, AreNeeded, IsAmong, IsBegun, IsBelow, IsCandidate, IsRowFound, is_known, place_at, shared_places};
+ghost use Rattle.tb_lanes.specs.Clocks.{AreTasks, IsShaped};
+ghost use Rattle.tb_lanes.specs.Fewer.{AreFewer};
+ghost use Rattle.tb_lanes.specs.Needing.{IsBelow, place_at};
+ghost use Rattle.tb_order.specs.Needed.{AreCandidates, AreNeeded, IsAmong, IsBegun, IsRowFound, is_known, is_pending, shared_places};
 ghost use Rattle.tb_order.specs.Walked.{IsOffered, IsSoFar, IsWalked, first_places};
 
 use crate::joining::{is_merged, join};
@@ -59,6 +61,8 @@ pub fn untold(
 ) -> Result<Vec<usize>, AllocError>
     requires begun { IsBegun entries.now tasks.now clocks.now step.now }
     requires low { (i : ℕ) → i < length places.now → place_at places.now i < step.now.at }
+    requires pending { (i : ℕ) → i < length places.now
+        → IsTrue (is_pending entries.now tasks.now step.now.at (place_at places.now i)) }
     ensures { IfOk result (λ found. found.items
         ≡ filter (λ q. not (is_known entries.now tasks.now clocks.now step.now q)) places.now) }
 {
@@ -99,11 +103,11 @@ pub fn needed_among(
     found: Vec<usize>,
 ) -> Result<(Option<Vec<LaneBound>>, Vec<usize>), AllocError>
     requires begun { IsBegun entries.now tasks.now clocks.now step.now }
-    requires found { AreCandidates entries.now tasks.now clocks.now step.now found.items }
+    requires found { AreCandidates entries.now tasks.now step.now.at found.items }
     ensures row { IfOk result (λ r.
         IsRowFound entries.now tasks.now clocks.now step.now found.items r.0) }
     ensures needed { IfOk result (λ r.
-        AreNeeded entries.now tasks.now clocks.now step.now found.items r.1.items) }
+        AreNeeded entries.now tasks.now step.now.at found.items r.1.items) }
 {
     let mut needed = Needed {
         alloc,
@@ -162,7 +166,7 @@ fn need(
     requires so_far { IsSoFar entries.now tasks.now clocks.now step.now needed.old }
     requires last { (i : ℕ) → i < length needed.old.places.items
         → place ≤ place_at needed.old.places.items i }
-    requires offered { IsOffered entries.now tasks.now clocks.now step.now place }
+    requires offered { IsOffered entries.now tasks.now step.now.at place }
     ensures so_far { OnOk result (IsSoFar entries.now tasks.now clocks.now step.now needed.new) }
     ensures more { OnOk result ((q : ℕ) → IsBelow AllNeeds entries.now needed.old.places.items q
         → IsBelow AllNeeds entries.now needed.new.places.items q) }
@@ -206,12 +210,12 @@ fn is_reached(tasks: &Tasks, clocks: &Clocks, places: &[usize], early: usize) ->
     requires early { (i : ℕ) → i < length places.now → early ≤ place_at places.now i }
     requires late { (i : ℕ) → i < length places.now
         → place_at places.now i < length clocks.now.of.items }
-    ensures yes { IsTrue result → (entries : List Entry) (n : ℕ) → AreTasks entries tasks.now
-        → AreClocks AllNeeds entries tasks.now n clocks.now → n ≡ length clocks.now.of.items
-        → IsBelow AllNeeds entries places.now early }
-    ensures no { IsFalse result → (entries : List Entry) (n : ℕ) → AreTasks entries tasks.now
-        → AreClocks AllNeeds entries tasks.now n clocks.now → n ≡ length clocks.now.of.items
-        → (i : ℕ) → i < length places.now
+    ensures yes { IsTrue result → (asked : ℕ → Bool) (entries : List Entry) (n : ℕ)
+        → AreTasks entries tasks.now → AreFewer asked AllNeeds entries tasks.now n clocks.now
+        → n ≡ length clocks.now.of.items → IsBelow AllNeeds entries places.now early }
+    ensures no { IsFalse result → (asked : ℕ → Bool) (entries : List Entry) (n : ℕ)
+        → AreTasks entries tasks.now → AreFewer asked AllNeeds entries tasks.now n clocks.now
+        → n ≡ length clocks.now.of.items → IsTrue (asked early) → (i : ℕ) → i < length places.now
         → is.reaches AllNeeds entries (place_at places.now i) early ≡ false }
 {
     for late in places {

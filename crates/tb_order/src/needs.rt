@@ -1,5 +1,6 @@
 //! What has been made of all needs so far.
 
+use crate::pending::Pending;
 use std::alloc::Global;
 use tb_lanes::{Clocks, Kept, Past};
 
@@ -13,4 +14,6 @@ pub struct Needs {
     pub clocks: Clocks,
     /// Of each cell and of the output the steps that a later one may need for it.
     pub kept: Kept,
+    /// For which steps a later one may still ask.
+    pub pending: Pending,
 }

@@ -1,7 +1,7 @@
 //! The steps that a later one needs for what they share.
 
 ghost use Rattle.std.specs.Prelude.{◌<◌, ◌+◌, length, OnOk};
-ghost use Rattle.tb_lanes.specs.Needing.{AreShared};
+ghost use Rattle.tb_order.specs.Needed.{AreShared};
 
 use std::alloc::AllocError;
 use tb_core::History;

@@ -17,6 +17,6 @@ back-preserved c =
       within = omega (arith, skip, low, inside);
       passed = λ o entries are told is j m h.
           passed_more o entries at (omega (arith, c.requires.at, c.requires.listed, are.numbers_listed)) ends is c.requires.low i inside
-          (subst (λ y. reaches o entries at y ≡ true) e (sym (c.reaches.ensures o entries (at + 1) are told (omega arith)) ∙ c.if-reaches.true))
+          (subst (λ y. reaches o entries at y ≡ true) e (sym (c.reaches.ensures.same o entries (at + 1) are told (omega arith)) ∙ c.if-reaches.true))
           (λ n a b. l.invariant.passed o entries are told is n (omega (arith, a)) b) j (omega (arith, m, skip)) h;
     }

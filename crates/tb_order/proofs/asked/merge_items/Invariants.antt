@@ -9,6 +9,7 @@ use Rattle.tb_order.proofs.asked.merge_items.Given as goal
 abbrev pub invariant-loop-item : goal.invariant-loop-item
 invariant-loop-item l = record {
   more : JoinsMore l.entries l.tasks l.past l.waiter.lane l.waiter.at l.initial.joined l.joined;
-  told : (x i : ℕ) (item : Item) → IsAsked (order_of l.past.exclusion) l.entries l.tasks l.waiter.at l.waiter.parent x → i < l.item-index → slice_get l.items i ≡ Some item
+  told : (x i : ℕ) (item : Item) → IsAsked (order_of l.past.exclusion) l.entries l.tasks l.waiter.at l.waiter.parent x → i < l.item-index
+      → slice_get l.items i ≡ Some item
       → IsTrue (list_any (may_meet l.past.exclusion item) (items_at l.entries x)) → IsTold l.entries l.tasks l.past l.waiter.lane l.waiter.at l.joined x;
 }

@@ -34,7 +34,8 @@ loop-place-preserved c v v_is =
     let y = there entries q i in
     let front = take n entries in
     let kind = sym (c.kind_at.ensures v y.0 (entry_read entries n v w v_is) (entry_read entries q y.0 i y.1)) ∙ c.unwrap-kind.ensures in
-    let this = told_as front v.event q y.0 (front_length entries n q l w) (front_read entries n q y.0 l y.1) (c.requires.near v v_is k c.loop-place-test.true) c.unwrap-kind.result kind c.in_ok-step.step (front_step entries n q y.0 l w y.1 ∙ c.in_ok-step.ensures) in
+    let this =
+    told_as front v.event q y.0 (front_length entries n q l w) (front_read entries n q y.0 l y.1) (c.requires.near v v_is k c.loop-place-test.true) c.unwrap-kind.result kind c.in_ok-step.step (front_step entries n q y.0 l w y.1 ∙ c.in_ok-step.ensures) in
     ap (map (λ (x : Cause). Some x)) c.in_ok-push.ensures.items
     ∙ map-append (λ (x : Cause). Some x) c.loop-place.causes.items (record { kind = c.unwrap-kind.result; step = c.in_ok-step.step } ∷ [])
     ∙ ap₂ (λ xs o. xs ++ o ∷ []) (c.loop-place.invariant v v_is) (sym this)

@@ -51,7 +51,8 @@ note_over-requires-clause-clocks c =
     let at = c.args.at in
     let step = c.in_ok-step.step in
     let first = c.begin-first.ensures.at in
-    let one : IsOneMore fin.clocks step.row step.lane at c.add.new.clocks = subst (λ m. IsOneMore fin.clocks step.row step.lane m c.add.new.clocks) (c.in_ok-step.ensures.at ∙ first) c.in_ok-add.ensures in
+    let one : IsOneMore fin.clocks step.row step.lane at c.add.new.clocks =
+    subst (λ m. IsOneMore fin.clocks step.row step.lane m c.add.new.clocks) (c.in_ok-step.ensures.at ∙ first) c.in_ok-add.ensures.one in
     let stands : IsStanding o entries tasks fin.clocks step.row step.lane at =
     subst (λ e. IsStanding (order_of e) entries tasks fin.clocks step.row step.lane at) (sym c.finish.ensures.same) (subst (IsStanding (order_of c.args.past.now.exclusion) entries tasks fin.clocks step.row step.lane) first c.in_ok-step.ensures.stands) in
     let past : IsPast entries tasks fin at = subst (IsPast entries tasks fin) first c.in_ok-step.ensures.past in
@@ -59,12 +60,14 @@ note_over-requires-clause-clocks c =
 
 pub note_over-requires-clause-ends : goal.note_over-requires-clause-ends
 note_over-requires-clause-ends c =
-    let past : IsPast c.args.entries.now c.args.tasks.now c.finish.new.past c.args.at = subst (IsPast c.args.entries.now c.args.tasks.now c.finish.new.past) c.begin-first.ensures.at c.in_ok-step.ensures.past in
+    let past : IsPast c.args.entries.now c.args.tasks.now c.finish.new.past c.args.at =
+    subst (IsPast c.args.entries.now c.args.tasks.now c.finish.new.past) c.begin-first.ensures.at c.in_ok-step.ensures.past in
     past.ends
 
 pub note_over-requires-clause-rows : goal.note_over-requires-clause-rows
 note_over-requires-clause-rows c =
-    let past : IsPast c.args.entries.now c.args.tasks.now c.finish.new.past c.args.at = subst (IsPast c.args.entries.now c.args.tasks.now c.finish.new.past) c.begin-first.ensures.at c.in_ok-step.ensures.past in
+    let past : IsPast c.args.entries.now c.args.tasks.now c.finish.new.past c.args.at =
+    subst (IsPast c.args.entries.now c.args.tasks.now c.finish.new.past) c.begin-first.ensures.at c.in_ok-step.ensures.past in
     past.rows
 
 pub returns-clause-joined : goal.returns-clause-joined

@@ -45,8 +45,10 @@ returns-in-None-clause-stands c =
     let are = c.requires.tasks in
     let told = c.requires.past.clocks in
     let row = bound_in (row_in clocks.rows.items c.args.step.row) in
-    let own : c.in_ok-own.own.items ≡ row_in clocks.rows.items c.args.step.row = c.in_ok-own.ensures.items ∙ c.row.ensures ∙ ap (λ rows. row_in rows c.args.step.row) c.deref.ensures.value in
-    let same = ap bound_among (c.in_ok-merge_all.ensures.more.same c.in-None.is).0 ∙ fun_ext (λ j. first_bound c.new-2.result.items c.new-2.ensures.items j (bound_among c.add_row.new.rows.items j) (bound_in c.in_ok-own.own.items j) (c.in_ok-add_row.ensures.bounds j)) ∙ ap bound_in own in
+    let own : c.in_ok-own.own.items ≡ row_in clocks.rows.items c.args.step.row =
+    c.in_ok-own.ensures.items ∙ c.row.ensures ∙ ap (λ rows. row_in rows c.args.step.row) c.deref.ensures.value in
+    let same =
+    ap bound_among (c.in_ok-merge_all.ensures.more.same c.in-None.is).0 ∙ fun_ext (λ j. first_bound c.new-2.result.items c.new-2.ensures.items j (bound_among c.add_row.new.rows.items j) (bound_in c.in_ok-own.own.items j) (c.in_ok-add_row.ensures.bounds j)) ∙ ap bound_in own in
     let s = stands_in o entries tasks are at c.requires.at (lanes_of clocks) told.lanes row k c.stay-in-None.result.lane c.requires.lane c.requires.sound
     (subst (λ r. TellsEnds o entries tasks (lanes_of clocks) r k at) same (λ x l e h. c.in_ok-merge_all.ensures.told x (l, e) h))
     (none_shared c.args.past.now.exclusion entries tasks (lanes_of clocks) row k at)
@@ -116,10 +118,14 @@ returns-in_ok-push-in-Some-clause-stands c =
     let more = c.in_ok-merge_all.ensures.more.are in
     let same : bound_among rows ≡ row = fun_ext (λ j. sym (ap (λ r. bound_in r j) exact ∙ c.in_ok-merged-in-Some.ensures.bounds j)) in
     let sound : IsSound o entries tasks (lanes_of clocks) row k at = subst (λ r. IsSound o entries tasks (lanes_of clocks) r k at) same more.sound in
-    let joined : IsJoined o entries tasks (lanes_of clocks) row k at c.in-Some.end = subst (λ r. IsJoined o entries tasks (lanes_of clocks) r k at c.in-Some.end) same (more.end c.in-Some.end c.in-Some.is) in
-    let goes : GoesOn o entries tasks (lanes_of clocks) row k at c.lane_behind.result = ⊎_elim (λ e. inl e) (λ h. inr (c.in-Some.end, joined, h.0, h.1, h.2)) c.lane_behind.ensures in
-    let ends : TellsEnds o entries tasks (lanes_of clocks) row k at = subst (λ r. TellsEnds o entries tasks (lanes_of clocks) r k at) same (λ x l e h. c.in_ok-merge_all.ensures.told x (l, e) h) in
-    let s = stands_in o entries tasks are at c.requires.at (lanes_of clocks) told.lanes row k c.lane_behind.result c.requires.lane sound ends (none_shared c.args.past.now.exclusion entries tasks (lanes_of clocks) row k at) goes in
+    let joined : IsJoined o entries tasks (lanes_of clocks) row k at c.in-Some.end =
+    subst (λ r. IsJoined o entries tasks (lanes_of clocks) r k at c.in-Some.end) same (more.end c.in-Some.end c.in-Some.is) in
+    let goes : GoesOn o entries tasks (lanes_of clocks) row k at c.lane_behind.result =
+    ⊎_elim (λ e. inl e) (λ h. inr (c.in-Some.end, joined, h.0, h.1, h.2)) c.lane_behind.ensures in
+    let ends : TellsEnds o entries tasks (lanes_of clocks) row k at =
+    subst (λ r. TellsEnds o entries tasks (lanes_of clocks) r k at) same (λ x l e h. c.in_ok-merge_all.ensures.told x (l, e) h) in
+    let s =
+    stands_in o entries tasks are at c.requires.at (lanes_of clocks) told.lanes row k c.lane_behind.result c.requires.lane sound ends (none_shared c.args.past.now.exclusion entries tasks (lanes_of clocks) row k at) goes in
     stands_by o entries tasks at clocks c.push.new.self c.in_ok-row-in-Some.row c.in_ok-push-in-Some.ensures.items told c.len.result c.lane_behind.result (omega (arith, c.len.ensures, c.push.new.self.ok)) (subst IsRising (sym exact) (c.in_ok-merged-in-Some.ensures.rising more.rising)) s.0 sound.low s.1
 
 pub lane_behind-requires-clause-end : goal.lane_behind-requires-clause-end

@@ -31,10 +31,13 @@ back-preserved-then-is_merged c =
     let inside : i < length ends.places.items = omega (arith, c.back-test.true, l.invariant.within) in
     let e : c.index-end.result.now ≡ end_at ends i = within_any ends.places.items i 0 c.index-end.result.now inside c.index-end.ensures in
     let low = c.requires.row.tied.low i inside in
-    let skip : c.index-left.result.now ≡ skip_at ends i = within_any ends.skips.items i 0 c.index-left.result.now (omega (arith, inside, c.requires.row.tied.listed)) c.index-left.ensures in
-    let lane_is : c.index.result.now ≡ lane clocks c.index-end.result.now = within_any c.args.past.now.clocks.lanes.items c.index-end.result.now 0 c.index.result.now (omega (arith, e, (c.requires.row.each i inside).0, c.requires.waiting.front.clocks.laned)) c.index.ensures in
-    let bound_is : c.bound_among-told.result ≡ row (lane clocks c.index-end.result.now) = c.bound_among-told.ensures (subst AreRising (sym c.deref.ensures.value) l.invariant.more.are.rising) ∙ ap₂ bound_among c.deref.ensures.value lane_is in
-    let merged = c.is_merged.ensures o entries row c.requires.waiting.by_task c.requires.waiting.front.clocks bound_is in
+    let skip : c.index-left.result.now ≡ skip_at ends i =
+    within_any ends.skips.items i 0 c.index-left.result.now (omega (arith, inside, c.requires.row.tied.listed)) c.index-left.ensures in
+    let lane_is : c.index.result.now ≡ lane clocks c.index-end.result.now =
+    within_any c.args.past.now.clocks.lanes.items c.index-end.result.now 0 c.index.result.now (omega (arith, e, (c.requires.row.each i inside).0, c.requires.waiting.front.clocks.laned)) c.index.ensures in
+    let bound_is : c.bound_among-told.result ≡ row (lane clocks c.index-end.result.now) =
+    c.bound_among-told.ensures (subst AreRising (sym c.deref.ensures.value) l.invariant.more.are.rising) ∙ ap₂ bound_among c.deref.ensures.value lane_is in
+    let merged = c.is_merged.ensures.same o entries row c.requires.waiting.by_task c.requires.waiting.front.clocks bound_is in
     let told : is_told o entries tasks clocks row k at (end_at ends i) ≡ true = subst (λ y. is_told o entries tasks clocks row k at y ≡ true) e (sym merged ∙ c.if-is_merged.true) in record {
       within = omega (arith, skip, low, inside);
       more = l.invariant.more;
@@ -62,7 +65,8 @@ back-preserved-then-waits c =
     let inside : i < length ends.places.items = omega (arith, c.back-test.true, l.invariant.within) in
     let e : c.index-end.result.now ≡ end_at ends i = within_any ends.places.items i 0 c.index-end.result.now inside c.index-end.ensures in
     let low = c.requires.row.tied.low i inside in
-    let skip : c.index-left-then-waits.result.now ≡ skip_at ends i = within_any ends.skips.items i 0 c.index-left-then-waits.result.now (omega (arith, inside, c.requires.row.tied.listed)) c.index-left-then-waits.ensures in
+    let skip : c.index-left-then-waits.result.now ≡ skip_at ends i =
+    within_any ends.skips.items i 0 c.index-left-then-waits.result.now (omega (arith, inside, c.requires.row.tied.listed)) c.index-left-then-waits.ensures in
     let s = c.index-end.result.now in
     let next = bound_among c.join.new.rows.items in
     let each : (s < at) × (is_end_at entries s ≡ true) = subst (λ y. (y < at) × (is_end_at entries y ≡ true)) (sym e) (c.requires.row.each i inside) in
@@ -73,7 +77,7 @@ back-preserved-then-waits c =
     let stays = stays_told o entries tasks are at w clocks told k row next s each.0 more in
     let sound = sound_more o entries tasks are at w clocks told k row next s each.0 more l.invariant.more.are.sound link in record {
       within = omega (arith, skip, low, inside);
-      more = joins_one entries tasks c.args.past.now k at c.args.joined.now l.joined _ s l.invariant.more (c.in_ok-join.ensures.rising o entries are stored up) sound stays (each.0, each.1, itself) c.better.result c.better.ensures refl c.in_ok-push.ensures.items link (adds_told o entries tasks are at w clocks told k row next s each.0 more);
+      more = joins_one entries tasks c.args.past.now k at c.args.joined.now l.joined _ s l.invariant.more (c.in_ok-join.ensures.rising stored.rising up) sound stays (each.0, each.1, itself) c.better.result c.better.ensures refl c.in_ok-push.ensures.items link (adds_told o entries tasks are at w clocks told k row next s each.0 more);
       seen = λ j m h q.
           seen_more o entries tasks clocks next k at sound ends c.requires.row i inside (subst (λ y. is_told o entries tasks clocks next k at y ≡ true) e itself) (λ n. links_at o entries at (end_at ends n) ≡ true)
           (λ n a b r. stays (end_at ends n) (c.requires.row.each n b).0 (l.invariant.seen n (omega (arith, a)) b r)) j (omega (arith, m, skip)) h q;

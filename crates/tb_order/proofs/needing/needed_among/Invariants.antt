@@ -9,7 +9,8 @@ abbrev pub invariant-back : goal.invariant-back
 invariant-back l = record {
   within : l.left ≤ length l.order.items;
   so_far : IsSoFar l.entries l.tasks l.clocks l.step l.needed;
-  each : (i : ℕ) → i < length l.needed.places.items → (j : ℕ) × (l.left ≤ j) × (j < length l.order.items) × (place_at l.order.items j ≡ place_at l.needed.places.items i);
+  each : (i : ℕ) → i < length l.needed.places.items
+      → (j : ℕ) × (l.left ≤ j) × (j < length l.order.items) × (place_at l.order.items j ≡ place_at l.needed.places.items i);
   covered : (j : ℕ) → l.left ≤ j → j < length l.order.items → IsBelow AllNeeds l.entries l.needed.places.items (place_at l.order.items j);
 }
 

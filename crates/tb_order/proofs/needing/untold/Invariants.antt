@@ -1,5 +1,5 @@
 use Rattle.std.proofs.Common.{◌≡◌, filter, not, take}
-use Rattle.tb_lanes.specs.Needing.{is_known}
+use Rattle.tb_order.specs.Needed.{is_known}
 use Rattle.tb_order.proofs.needing.untold.Given as goal
 
 -- those among the indexes so far

@@ -9,5 +9,6 @@ use Rattle.tb_order.proofs.noting.note_rows.Given as goal
 abbrev pub invariant-loop-item : goal.invariant-loop-item
 invariant-loop-item l = record {
   fit : AreFit l.at l.rows.entries;
-  rows : (o : Order) → AreClocks o l.entries l.tasks (l.at + 1) l.clocks → AreRows o l.entries (IsNoted l.entries l.tasks l.at) l.fn.rows.entries → AreRows o l.entries (SoFar l.entries l.tasks l.at l.item-index) l.rows.entries;
+  rows : (o : Order) → AreClocks o l.entries l.tasks (l.at + 1) l.clocks → AreRows o l.entries (IsNoted l.entries l.tasks l.at) l.fn.rows.entries
+      → AreRows o l.entries (SoFar l.entries l.tasks l.at l.item-index) l.rows.entries;
 }

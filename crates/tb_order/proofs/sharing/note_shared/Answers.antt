@@ -2,7 +2,7 @@ use Rattle.std.proofs.Common.{◌≡◌, ◌+◌, ◌++◌, ◌∷◌, [], lengt
 use Rattle.std.proofs.lemmas.List.{take_all}
 use Rattle.tb_lanes.specs.Clocks.{kept_in}
 use Rattle.tb_lanes.specs.Kept.{is_load, slot_of}
-use Rattle.tb_lanes.specs.Needing.{Shares}
+use Rattle.tb_order.specs.Needed.{Shares}
 use Rattle.tb_order.proofs.SharedLemmas.{load_shares, shares_none, shares_rest, write_shares}
 use Rattle.tb_order.proofs.sharing.note_shared.Goals as goal
 use Rattle.tb_steps.proofs.FirstLemmas.{there}
