@@ -151,7 +151,7 @@ bool Part::is_left(const event &e, std::size_t at, const std::unordered_set<u64>
 
 void Part::write(const char *path) const {
     std::ofstream out(path, std::ios::binary);
-    std::string page = "taskback trace 4 " + run_.trace.program();
+    std::string page = "taskback trace 5 " + run_.trace.program();
     page.resize(4096, '\n');
     out.write(page.data(), static_cast<std::streamsize>(page.size()));
     const auto places = touched();

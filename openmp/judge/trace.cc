@@ -19,7 +19,7 @@ Trace::Trace(const char *path) {
     length_ = static_cast<std::size_t>(about.st_size);
     void *mapped = length_ ? mmap(nullptr, length_, PROT_READ, MAP_PRIVATE, file, 0) : MAP_FAILED;
     close(file);
-    constexpr char WORDS[] = "taskback trace 4 ";
+    constexpr char WORDS[] = "taskback trace 5 ";
     bool is_whole = mapped != MAP_FAILED && length_ >= HEADER && std::memcmp(mapped, WORDS, sizeof WORDS - 1) == 0;
     if (mapped != MAP_FAILED)
         bytes_ = static_cast<const char *>(mapped);
@@ -36,7 +36,7 @@ Trace::~Trace() {
 
 void Trace::read_header() {
     std::string page(bytes_, HEADER);
-    std::size_t begin = std::strlen("taskback trace 4 "), end = page.find('\n');
+    std::size_t begin = std::strlen("taskback trace 5 "), end = page.find('\n');
     program_ = page.substr(begin, end - begin);
     is_cut_ = page.compare(HEADER - (sizeof NO_ROOM - 1), sizeof NO_ROOM - 1, NO_ROOM) == 0;
     std::size_t second = page.find('\n', end + 1);

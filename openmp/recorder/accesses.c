@@ -2,20 +2,6 @@
    by its thread instrumentation. */
 #include "writing.h"
 
-/* Unaligned numbers; no call of memcpy, which would be recorded too. */
-struct __attribute__((packed)) two { int16_t number; };
-struct __attribute__((packed)) four { int32_t number; };
-struct __attribute__((packed)) eight { uint64_t number; };
-
-static uint64_t number_at(uint64_t address, uint32_t size) {
-    switch (size) {
-    case 1: return (uint64_t)(int64_t)*(const volatile int8_t *)address;
-    case 2: return (uint64_t)(int64_t)((const volatile struct two *)address)->number;
-    case 4: return (uint64_t)(int64_t)((const volatile struct four *)address)->number;
-    default: return size < 8 ? 0 : ((const volatile struct eight *)address)->number;
-    }
-}
-
 static inline void read_written(struct own *own) {
     struct event *event = own->unread;
     uint32_t row = event->mark >> ROW_SHIFT;
@@ -23,26 +9,31 @@ static inline void read_written(struct own *own) {
     event->value = number_at(event->address, row ? 1u << (row - 1) : event->size);
 }
 
-void taskback_read_written(struct own *own) { read_written(own); }
+SELDOM void taskback_read_written(struct own *own) { read_written(own); }
 
 /* What the creator fills of a task's record, what the runtime does for a task, and what is being sorted. */
-static int is_apart(const struct own *own, uint64_t address) {
-    if (address - own->record < own->record_size && own->record_creator == own->task)
-        return 1;
-    if (own->muted && own->muted == own->task)
-        return 1;
-    return address - own->sorted.array < own->sorted.size || address - own->sorted.room < own->sorted.size;
+SELDOM static void find_others(const struct own *own, uint64_t address, int *is_found) {
+    *is_found = (address - own->record < own->record_size && own->record_creator == own->task)
+                || (own->muted && own->muted == own->task)
+                || address - own->sorted.array < own->sorted.size || address - own->sorted.room < own->sorted.size;
+}
+
+static inline int is_apart(const struct own *own, uint64_t address) {
+    int is_found = 0;
+    if (own->record_size | own->muted | own->sorted.size)
+        find_others(own, address, &is_found);
+    return is_found;
 }
 
 /* That, a thread's own variables, and what the compiler's code reads of a task's record to find what the task shares. */
 static inline int is_left_out(const struct own *own, enum kind kind, uint64_t address) {
-    if (own->record_size | own->muted | own->sorted.size && is_apart(own, address))
+    if (is_apart(own, address))
         return 1;
     if (address - own->tls_low < own->tls_size)
         return 1;
-    if (kind != READ || own->depth == 0 || own->depth > RUNNING_MOST)
+    const struct running *running = own->top;
+    if (kind != READ || !running)
         return 0;
-    const struct running *running = &own->running[own->depth - 1];
     return address - running->record < RECORD_HEAD || address - running->shared < SHARED_MOST;
 }
 
@@ -58,10 +49,6 @@ static struct frame *outer_of(const struct own *own, const struct frame *frame) 
     return is_frame ? frame->outer : 0;
 }
 
-static struct running *top_task(struct own *own) {
-    return own->depth > 0 && own->depth <= RUNNING_MOST ? &own->running[own->depth - 1] : 0;
-}
-
 /* The frame of the function that makes the access; 0 where it can't be told. */
 static inline struct frame *frame_of(const struct own *own, uint64_t place, struct frame *frame) {
     while (frame && frame->back != place)
@@ -75,9 +62,9 @@ static inline int are_callers_known(const struct own *own, const struct chain *c
 }
 
 /* Writes down who called the function that makes the access; the chain is that of its task. */
-__attribute__((noinline)) static void note_new_callers(struct own *own, struct chain *chain, struct frame *frame) {
+SELDOM static void note_new_callers(struct own *own, struct chain *chain, struct frame *frame) {
     *chain = (struct chain){(uint64_t)frame, frame->back, (uint64_t)frame->outer, own->task};
-    struct running *running = top_task(own);
+    struct running *running = own->top;
     uint64_t places[CALLERS] = {0}, callers = 0;
     uint64_t base = running ? running->base : 0;
     while (callers < CALLERS && frame && (uint64_t)frame + sizeof *frame != base) {
@@ -91,7 +78,7 @@ __attribute__((noinline)) static void note_new_callers(struct own *own, struct c
 /* That where it isn't known from the task's access before; of the task's outermost function, which has none, the mark that
    says so. */
 static inline int note_callers(struct own *own, struct frame *frame) {
-    struct running *running = top_task(own);
+    struct running *running = own->top;
     int is_own = running && running->task == own->task;
     if (is_own && frame && (uint64_t)frame + sizeof *frame == running->base)
         return OUTERMOST;
@@ -222,7 +209,7 @@ static void begin_set(struct own *own, struct touched *touched, enum kind kind, 
 /* Whether nothing of the block is left out, and the place has a frame by which its callers are told apart. */
 static uint64_t may_grow(const struct own *own, enum kind kind, uint64_t address, uint32_t shift, const struct frame *frame) {
     uint64_t low = address >> (shift + 6) << (shift + 6), size = 64ull << shift;
-    const struct running *running = own->depth > 0 && own->depth <= RUNNING_MOST ? &own->running[own->depth - 1] : 0;
+    const struct running *running = own->top;
     uint64_t starts[] = {own->record, own->tls_low, own->sorted.array, own->sorted.room,
                          running ? running->record : 0, running ? running->shared : 0};
     uint64_t sizes[] = {own->record_size, own->tls_size, own->sorted.size, own->sorted.size,
@@ -310,7 +297,7 @@ void taskback_access(enum kind kind, uint64_t address, uint64_t size, uint64_t p
 /* What a function has on the stack ends with it; of one that is called again in this part it is told once. A task's outermost
    function ends once. */
 static void end_frame(struct own *own, uint64_t low, uint64_t size, uint64_t place, int is_outermost, struct frame *user) {
-    if ((own->record_size | own->muted | own->sorted.size) && is_apart(own, low))
+    if (is_apart(own, low))
         return;
     if (own->lanes.follows)
         taskback_part_lane(own);
@@ -327,32 +314,37 @@ static void end_frame(struct own *own, uint64_t low, uint64_t size, uint64_t pla
     *touched = (struct touched){key_of(own, place), alone(WRITE, low), size, event, 0, 0, 0, 0};
 }
 
-/* The first function that a task enters shows where its part of the stack begins; all below is new to it. What a
-   function has on the stack no other task knows of until the function meets the runtime. */
+/* The first function that a task enters shows where its part of the stack begins; all below is new to it. */
+SELDOM static void begin_stack(struct own *own, uint64_t top) {
+    struct event *start = own->next - 1;
+    uint64_t size = top - own->stack_low;
+    own->top->base = top;
+    if (start != own->started || (start->kind == CREATE && size > UINT32_MAX)) {
+        taskback_new_memory(own, own->stack_low, size, 0)->mark = STACK;
+    } else if (start->kind == CREATE) {
+        start->value |= size << 32;
+    } else {
+        start->address = own->stack_low;
+        start->value = size;
+        start->mark |= STACK;
+    }
+}
+
+/* What a function has on the stack no other task knows of until the function meets the runtime. */
 void __tsan_func_entry(void *caller) {
     (void)caller;
     struct own *own = own_state();
     uint64_t top = (uint64_t)__builtin_frame_address(1) + 16;
     if (top - own->stack_low > own->quiet_span)
         own->quiet_span = own->stack_low ? top - own->stack_low : 0;
-    struct running *running = top_task(own);
-    if (!running || running->base)
-        return;
-    running->base = top;
-    struct event *start = own->next - 1;
-    if (start != own->started) {
-        taskback_new_memory(own, own->stack_low, top - own->stack_low, 0)->mark = STACK;
-        return;
-    }
-    start->address = own->stack_low;
-    start->value = top - own->stack_low;
-    start->mark |= STACK;
+    if (own->top && !own->top->base)
+        begin_stack(own, top);
 }
 
 /* What a function has on the stack ends with it, as a block that is given back. A task's first function is that task's to
    its end: of an untied task the runtime says at the latest call in it, or not at all, that it leaves the thread. */
 __attribute__((noinline)) static void leave_function(struct own *own, uint64_t place, struct frame *frame) {
-    struct running *running = top_task(own);
+    struct running *running = own->top;
     uint64_t low = (uint64_t)frame + 16, top = (uint64_t)frame->outer + 16;
     int is_outermost = running && running->base == top;
     if (top - own->stack_low > own->quiet_span && top > low)
@@ -367,7 +359,7 @@ __attribute__((noinline)) static void leave_function(struct own *own, uint64_t p
 void __tsan_func_exit(void) {
     struct own *own = own_state();
     uint64_t top = (uint64_t)__builtin_frame_address(1) + 16;
-    struct running *running = top_task(own);
+    struct running *running = own->top;
     int is_outermost = running && running->base == top;
     if (is_outermost)
         own->task = running->task;
@@ -422,10 +414,10 @@ static inline int follows(struct lanes *lanes, uint64_t address, uint64_t place,
     return 1;
 }
 
-/* In a `simd` loop. */
+/* In a `simd` loop, where it isn't as in the lane before. */
 __attribute__((noinline)) static void touch_in_lane(struct own *own, enum kind kind, uint64_t address, uint32_t shift, uint64_t place,
                                                     struct frame *frame) {
-    if (follows(&own->lanes, address, place, frame->outer) || is_quiet(own, (const void *)address) || (own->is_alone && kind == READ))
+    if (is_quiet(own, (const void *)address) || (own->is_alone && kind == READ))
         return;
     if (own->lanes.follows)
         taskback_part_lane(own);
@@ -437,16 +429,18 @@ __attribute__((noinline)) static void touch_in_lane(struct own *own, enum kind k
 /* What isn't the next element of a row. The calls below end with a call of these, as these do, so that those that go on have
    no registers to keep; `frame` is then that of the call still. */
 __attribute__((noinline)) static void load(struct own *own, uint64_t address, uint32_t shift, uint64_t place, struct frame *frame) {
-    if (own->lanes.depth)
-        touch_in_lane(own, READ, address, shift, place, frame);
-    else if (!is_quiet(own, (const void *)address) && !own->is_alone)
+    if (own->lanes.depth) {
+        if (!follows(&own->lanes, address, place, frame->outer))
+            touch_in_lane(own, READ, address, shift, place, frame);
+    } else if (!is_quiet(own, (const void *)address) && !own->is_alone)
         touch(own, READ, address, shift, place, frame);
 }
 
 __attribute__((noinline)) static void store(struct own *own, uint64_t address, uint32_t shift, uint64_t place, struct frame *frame) {
-    if (own->lanes.depth)
-        touch_in_lane(own, WRITE, address, shift, place, frame);
-    else if (!is_quiet(own, (const void *)address))
+    if (own->lanes.depth) {
+        if (!follows(&own->lanes, address, place, frame->outer))
+            touch_in_lane(own, WRITE, address, shift, place, frame);
+    } else if (!is_quiet(own, (const void *)address))
         touch(own, WRITE, address, shift, place, frame);
 }
 

@@ -52,7 +52,7 @@ static void *fresh_memory(size_t size) {
 
 static void use_piece(struct own *own, struct event *piece) {
     own->events = own->next = own->part = piece;
-    own->started = 0;
+    own->made_last = own->started = 0;
     own->end = piece + BUFFER;
 }
 
@@ -69,13 +69,8 @@ static struct event *map_piece(void) {
 /* Packs the full piece, with the bytes that it takes in its first event and a mark at its end, by which the judge knows that
    it is whole; how many bytes these are, which is a multiple of an event's. */
 static uint64_t pack_piece(struct own *own) {
-    const struct event *last[FAMILIES];
     struct event *head = (struct event *)own->packed;
-    unsigned char *to = own->packed + sizeof *head;
-    for (int i = 0; i < FAMILIES; i++)
-        ((const struct event *volatile *)last)[i] = own->events;
-    for (const struct event *event = own->events + 1; event != own->end; event++)
-        to = pack_event(last, event, to);
+    unsigned char *to = taskback_pack(own->events, own->end, own->packed + sizeof *head);
     *head = *own->events;
     head->value = (uint64_t)(to - own->packed) - sizeof *head;
     put_word(to, ~0ull);
@@ -108,12 +103,12 @@ static void run_out_of_room(void) {
 }
 
 /* Where there is no room the rest is left out, and the trace's numbers show that some are missing. */
-void taskback_turn_page(struct own *own) {
+SELDOM void taskback_turn_page(struct own *own) {
     own->lanes.follows = 0;
     begin_part(own);
     int is_recording = __atomic_load_n(&taskback_is_recording, __ATOMIC_ACQUIRE);
     own->next = own->part = own->events + 1;
-    own->started = own->frame_end = 0;
+    own->made_last = own->started = own->frame_end = 0;
     int is_kept = is_recording && keep_piece(own);
     own->events->place = 0;
     if (is_kept)
@@ -131,6 +126,7 @@ static void begin_pieces(struct own *own) {
     own->is_mapped = piece != 0;
     if (piece) {
         own->next++->address = own->index;
+        put_word(&own->events->stamp, own->stack_low);
         own->events->kind = CHUNK;
     } else if (taskback_is_recording) {
         run_out_of_room();
@@ -163,7 +159,7 @@ static void find_strangers(struct own *own) {
     }
 }
 
-struct own *taskback_adopt(void) {
+SELDOM void taskback_adopt(void) {
     struct own *own = fresh_memory(sizeof *own);
     taskback_own = own;
     own->part_key = PART;
@@ -171,12 +167,11 @@ struct own *taskback_adopt(void) {
     find_strangers(own);
     own->tls_size = thread_local_size;
     own->tls_low = (uint64_t)__builtin_thread_pointer() - thread_local_size;
-    begin_pieces(own);
     find_stack(own);
+    begin_pieces(own);
     own->link = __atomic_load_n(&all_threads, __ATOMIC_ACQUIRE);
     while (!__atomic_compare_exchange_n(&all_threads, &own->link, own, 0, __ATOMIC_ACQ_REL, __ATOMIC_ACQUIRE))
         ;
-    return own;
 }
 
 struct event *taskback_note(struct own *own, enum kind kind, uint32_t task, uint64_t address, uint64_t value,
@@ -199,7 +194,7 @@ static int put_header(void) {
     path[length > 0 ? length : 0] = 0;
     for (int i = 0; i < HEADER; i++)
         page[i] = '\n';
-    int at = add(page, 0, HEADER - 2, "taskback trace 4 ");
+    int at = add(page, 0, HEADER - 2, "taskback trace 5 ");
     at = add(page, at, HEADER - 2, path) + 1;
     if (&taskback_unseen_objects != 0)
         add(page, at, HEADER - 2, taskback_unseen_objects);

@@ -8,7 +8,8 @@
 enum kind {
     CREATE = 1,     /* task: the creator; address: the child; value: its flags; place: the directive. With a size the
                        child's record is new, which has that size and is at the address, the child is the lower half of
-                       value, and its flags are the upper one */
+                       value, and its flags are those of FLAGS_SHIFT in mark. With BEGINS there it starts at once, and value's
+                       upper half is the size of its part of the stack, which is new; 0: not known */
     ITEM,           /* task: the child; address; value: the length; mark: the type's bits */
     START,          /* task; mark: STACK where address, value are its part of the stack, which is new; COUNTED */
     END,            /* task; mark: STACK where address, value are its part of the stack, which is new from here on. With a
@@ -37,7 +38,8 @@ enum kind {
     COPY,           /* address: a thread's copy of a reduced variable; value: the variable, which is its own copy where the
                        thread is alone; with a size, its own */
     CHUNK,          /* the first of each piece of the file; address: the thread's number; value: of a packed piece the
-                       bytes that follow; place: for how many more events those of lanes stand; it has no stamp */
+                       bytes that follow; place: for how many more events those of lanes stand; in place of stamp and task
+                       it has the lower end of the thread's stack */
     ENDED,          /* the program has come to its end */
     LOOP_BEGIN,     /* task: an implicit task; address: how many iterations; value: the chunk's size, 0 for none; mark */
     ITERATION,      /* task; address: of the loop's number, or 0; value: the number; mark: HANDED_OUT */
@@ -85,6 +87,9 @@ enum mark { ATOMIC = 1, FREED = 2, LIBRARY = 4, FRAME = 8, OUTERMOST = 16 };
 
 /* Above these marks stands, of several elements, 1 and the power of two that is the size of each. */
 enum { ROW_SHIFT = 5 };
+
+/* The flags that a making's mark has, which are these bits of the runtime's, beside that of an explicit task. */
+enum { FLAGS_SHIFT = 27, FLAGS_EXPLICIT = 4, FLAGS = 31, BEGINS = 32 };
 
 /* Marks of a loop, of an iteration, of a release, of a lock that several may hold, of a task's own part of a stack, and of a
    start that has raised the counter, since there are several threads. */

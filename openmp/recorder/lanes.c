@@ -78,7 +78,7 @@ static void note_step(struct own *own, const struct lane_step *step) {
     event->mark = (uint8_t)(step->mark | (1 + step->shift) << ROW_SHIFT);
 }
 
-void taskback_part_lane(struct own *own) {
+SELDOM void taskback_part_lane(struct own *own) {
     uint64_t low = own->lanes.event->address, size = own->lanes.event->value;
     uint32_t met = own->lanes.met;
     forget_lane(own);
@@ -117,37 +117,33 @@ static void leave_lanes(struct own *own) {
     forget_lane(own);
 }
 
-/* The next lane; whether it is one of those that follow another one, and so has no event of its own. */
-static int goes_on_alike(struct own *own) {
-    struct lanes *lanes = &own->lanes;
-    if (lanes->follows && lanes->met == lanes->known) {
-        count_lane(own);
-        if (lanes->event->size < SET)
-            return 1;
-        forget_lane(own);
-        return 0;
-    }
-    if (!lanes->follows && may_be_followed(own)) {
-        begin_to_follow(own);
-        return 1;
-    }
-    return 0;
-}
-
-void taskback_lane(void) {
-    struct own *own = own_state();
+/* A lane that doesn't go on from one that follows; `top` is the end of what stands on the stack below its function. */
+__attribute__((noinline)) static void begin_lane(struct own *own, uint64_t top) {
     if (!is_outermost(own) || own->lanes.count > LANES_MOST)
         return;
     if (++own->lanes.count > LANES_MOST)
         return leave_lanes(own);
-    if (goes_on_alike(own))
-        return;
-    uint64_t top = (uint64_t)__builtin_frame_address(0) + 16;
+    if (own->lanes.follows && own->lanes.met == own->lanes.known) {
+        count_lane(own);
+        forget_lane(own);
+    } else if (!own->lanes.follows && may_be_followed(own)) {
+        return begin_to_follow(own);
+    }
     begin_loud_part(own);
     own->lanes.is_alike = own->lanes.met <= LANE_STEPS;
     own->lanes.known = own->lanes.is_alike ? own->lanes.met : 0;
     own->lanes.met = 0;
     own->lanes.event = taskback_note(own, LANE, own->task, own->stack_low, own->stack_low ? top - own->stack_low : 0, 0);
+}
+
+/* Most lanes end as one that followed, and the next one follows too. */
+void taskback_lane(void) {
+    struct own *own = own_state();
+    struct lanes *lanes = &own->lanes;
+    if (!is_outermost(own) || !lanes->follows || lanes->met != lanes->known || lanes->count >= LANES_MOST || lanes->event->size + 1 >= SET)
+        return begin_lane(own, (uint64_t)__builtin_frame_address(0) + 16);
+    lanes->count++;
+    count_lane(own);
 }
 
 /* A variable that the lane has for itself, whose address it gives away. */

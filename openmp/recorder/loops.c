@@ -36,7 +36,7 @@ static uint64_t number_at(uint64_t address, uint32_t size) {
 
 /* A store in a worksharing loop: where it is the loop's number that is stored, an iteration begins. The first store
    after the runtime has set the bounds, and that isn't one of these, sets the number to the lowest; then it counts up. */
-void taskback_stored_in_loop(struct own *own, uint64_t address, uint32_t size) {
+SELDOM void taskback_stored_in_loop(struct own *own, uint64_t address, uint32_t size) {
     struct loop *loop = &own->loop;
     if (loop->task != own->task || size != loop->size)
         return;
@@ -45,7 +45,7 @@ void taskback_stored_in_loop(struct own *own, uint64_t address, uint32_t size) {
     for (int i = 0; i < 4; i++)
         if (loop->bounds[i] == address)
             return;
-    const struct running *running = own->depth > 0 && own->depth <= RUNNING_MOST ? &own->running[own->depth - 1] : 0;
+    const struct running *running = own->top;
     if (!loop->number && running && address - own->stack_low < running->base - own->stack_low)
         loop->number = address;
     if (address != loop->number)

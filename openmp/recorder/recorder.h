@@ -105,6 +105,7 @@ struct own {
     uint64_t stack_high;
     struct chain chain;        /* of a task that isn't among those that run here */
     struct event *part;        /* behind what was written down in front of the part that is under way */
+    struct event *made_last;   /* the last task's making, where that says of its record, too */
     struct event *started;     /* the last task's start */
     struct event *frame_end;   /* the end of the frame of its outermost function */
     uint64_t quiet_record, quiet_size; /* the task's record, while no other task can know of it */
@@ -119,6 +120,7 @@ struct own {
     uint32_t task_number;      /* the last one that the thread has given to a task */
     uint32_t muted;            /* a task whose accesses are the runtime's */
     uint32_t depth;
+    struct running *top;       /* what runs; 0: nothing, or it is too deep */
     uint64_t tls_low, tls_size;
     struct sorted sorted;
     uint64_t record, record_size; /* a task's record that is being filled, before its task is created */
@@ -149,13 +151,23 @@ struct own {
     unsigned char packed[sizeof(struct event) + (BUFFER - 1) * LONGEST_EVENT + END_MARK + sizeof(struct event)];
 };
 
+/* Of a function that is seldom called: it keeps all registers, so that most calls of who calls it have none to save. It
+   returns nothing, since clang 14 keeps the register of that, too. */
+#define SELDOM __attribute__((preserve_most, noinline))
+
 extern __thread struct own *taskback_own;
-struct own *taskback_adopt(void);
+SELDOM void taskback_adopt(void);
 
 /* This thread's state. */
 static inline struct own *own_state(void) {
-    struct own *own = taskback_own;
-    return own ? own : taskback_adopt();
+    if (__builtin_expect(!taskback_own, 0))
+        taskback_adopt();
+    return taskback_own;
+}
+
+static inline void set_depth(struct own *own, uint32_t depth) {
+    own->depth = depth;
+    own->top = depth > 0 && depth <= RUNNING_MOST ? &own->running[depth - 1] : 0;
 }
 
 /* Writes an event down, with the next number of the one counter. */
@@ -163,10 +175,10 @@ struct event *taskback_note(struct own *own, enum kind kind, uint32_t task, uint
                             uint64_t place);
 
 /* Reads the number of the last write. */
-void taskback_read_written(struct own *own);
+SELDOM void taskback_read_written(struct own *own);
 
 /* The lane under way is no more as the one before: what it has done is written down. */
-void taskback_part_lane(struct own *own);
+SELDOM void taskback_part_lane(struct own *own);
 
 static inline void taskback_settle(struct own *own) {
     if (own->unread)
@@ -199,7 +211,7 @@ static inline void begin_loud_part(struct own *own) {
 void taskback_access(enum kind kind, uint64_t address, uint64_t size, uint64_t place, int mark);
 
 /* In a worksharing loop, whose number may be what was stored. */
-void taskback_stored_in_loop(struct own *own, uint64_t address, uint32_t size);
+SELDOM void taskback_stored_in_loop(struct own *own, uint64_t address, uint32_t size);
 
 /* A lane's access was written down last, or none was. */
 void taskback_lane_steps(struct own *own, const struct lane_step *step);

@@ -57,21 +57,18 @@ static void push_task(struct own *own, uint32_t task, uint32_t prior, int is_unt
     } else {
         note(own, NOTE, task, 0, NOTE_DEEP, 0);
     }
-    own->depth++;
+    set_depth(own, own->depth + 1);
 }
 
 /* The task's part of the stack, which is free from here on; 0 where it had none. */
 static uint64_t drop_task(struct own *own, uint32_t task) {
-    if (own->depth == 0)
-        return 0;
-    if (own->depth > RUNNING_MOST) {
-        own->depth--;
+    struct running *top = own->top;
+    if (!top || top->task != task) {
+        if (own->depth > RUNNING_MOST)
+            set_depth(own, own->depth - 1);
         return 0;
     }
-    struct running *top = &own->running[own->depth - 1];
-    if (top->task != task)
-        return 0;
-    own->depth--;
+    set_depth(own, own->depth - 1);
     return top->base ? top->base - own->stack_low : 0;
 }
 
@@ -97,7 +94,8 @@ static void note_items(struct own *own, uint32_t child, int count, const void *i
 /* The record that the creator has filled is new from the child's making on, if it is the child's: then one event says both. */
 static void note_made(struct own *own, uint32_t creator, uint32_t child, uint64_t flags, uint64_t place) {
     uint64_t record = own->untold_record, size = own->untold_size;
-    int is_childs = own->record_creator == creator && (!own->made || own->made == record) && size <= SIZE_MOST;
+    int is_childs = own->record_creator == creator && (!own->made || own->made == record) && size <= SIZE_MOST
+                    && (flags & ((1u << FLAGS_SHIFT) - 1)) == FLAGS_EXPLICIT;
     if (size && !is_childs)
         taskback_tell_record(own);
     if (!size || !is_childs) {
@@ -105,7 +103,8 @@ static void note_made(struct own *own, uint32_t creator, uint32_t child, uint64_
         return;
     }
     own->untold_size = 0;
-    note(own, CREATE, creator, record, child | flags << 32, place)->size = (uint16_t)size;
+    own->made_last = write_down(own, CREATE, number_of_event(CREATE, 0), creator, record, child, offset_of(place), (uint16_t)size,
+                                (int)(flags >> FLAGS_SHIFT));
 }
 
 static void on_create(ompt_data_t *creator, const ompt_frame_t *frame, ompt_data_t *child, int flags, int depends,
@@ -167,6 +166,16 @@ static int runs_here(const struct own *own, uint32_t task) {
     return 0;
 }
 
+/* Where nothing stands between a task's making and its start, the making says that it starts. */
+static struct event *note_start(struct own *own, uint32_t task) {
+    struct event *made = own->next - 1;
+    int mark = __atomic_load_n(&taskback_thread_count, __ATOMIC_RELAXED) > 1 ? COUNTED : 0;
+    if (mark || made != own->made_last || (uint32_t)made->value != task)
+        return write_down(own, START, number_of_event(START, mark), task, 0, 0, 0, 0, mark);
+    made->mark |= BEGINS;
+    return made;
+}
+
 /* An untied task may go on by another thread than before. */
 static void go_on(struct own *own, ompt_data_t *next, uint32_t before) {
     int is_untied = (next->value & UNTIED) != 0;
@@ -179,8 +188,7 @@ static void go_on(struct own *own, ompt_data_t *next, uint32_t before) {
         return;
     }
     next->value |= STARTED;
-    int mark = __atomic_load_n(&taskback_thread_count, __ATOMIC_RELAXED) > 1 ? COUNTED : 0;
-    own->started = write_down(own, START, number_of_event(START, mark), own->task, 0, 0, 0, 0, mark);
+    own->started = note_start(own, own->task);
     push_task(own, own->task, before, is_untied, next);
 }
 
@@ -273,7 +281,7 @@ static void on_region_end(ompt_data_t *region, ompt_data_t *task, int flags, con
     if (own->nesting > 0 && --own->nesting < NESTED) {
         own->loop = own->outer[own->nesting];
         if (own->depth > own->depths[own->nesting])     /* of a team's first task the runtime doesn't tell the end */
-            own->depth = own->depths[own->nesting];
+            set_depth(own, own->depths[own->nesting]);
     }
     own->is_alone = own->index == 0 && own->depth == 0 && !taskback_has_strangers;
 }

@@ -15,7 +15,24 @@ extern uint32_t taskback_thread_count;
 extern uint64_t taskback_base;
 
 /* Makes room: the accesses in the piece are no longer there to be compared with. */
-void taskback_turn_page(struct own *own);
+SELDOM void taskback_turn_page(struct own *own);
+
+/* Packs the events of a piece behind its first one, where there is room for LONGEST_EVENT bytes for each; the end of that. */
+unsigned char *taskback_pack(const struct event *first, const struct event *end, unsigned char *to);
+
+/* Unaligned numbers; no call of memcpy, which would be recorded too. */
+struct __attribute__((packed)) two { int16_t number; };
+struct __attribute__((packed)) four { int32_t number; };
+struct __attribute__((packed)) eight { uint64_t number; };
+
+static inline uint64_t number_at(uint64_t address, uint32_t size) {
+    switch (size) {
+    case 1: return (uint64_t)(int64_t)*(const volatile int8_t *)address;
+    case 2: return (uint64_t)(int64_t)((const volatile struct two *)address)->number;
+    case 4: return (uint64_t)(int64_t)((const volatile struct four *)address)->number;
+    default: return size < 8 ? 0 : ((const volatile struct eight *)address)->number;
+    }
+}
 
 /* A place, counted from where the program is loaded; 0: it isn't in it. */
 static inline int32_t offset_of(uint64_t place) {

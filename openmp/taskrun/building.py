@@ -15,7 +15,7 @@ from .directives import words_for_loops
 
 RECORDER = os.path.join(os.path.dirname(os.path.dirname(os.path.abspath(__file__))), "recorder")
 JUDGE = os.path.join(os.path.dirname(RECORDER), "judge")
-PARTS = ["buffers.c", "accesses.c", "atomics.c", "tool.c", "wraps.c", "reductions.c", "loops.c", "lanes.c", "locks.c",
+PARTS = ["buffers.c", "packing.c", "accesses.c", "atomics.c", "tool.c", "wraps.c", "reductions.c", "loops.c", "lanes.c", "locks.c",
          "memory.c", "signals.c", "strings.c", "formats.c", "numbers.c", "operators.c", "stubs.c"]
 CXX_ENDINGS = (".cc", ".cpp", ".cxx", ".C", ".c++", ".cp", ".CPP")
 SOURCE_ENDINGS = (".c",) + CXX_ENDINGS

@@ -9,6 +9,7 @@ from typing import NamedTuple
 
 IDENTIFIER = re.compile(r"[A-Za-z_]\w*")
 DIRECTIVE = re.compile(r"[ \t]*#[ \t]*pragma[ \t]+omp\b")
+STATEMENTS = ("return", "if", "while", "for", "else", "do", "case")
 LONGEST = 40
 SYSTEM = ("/usr/", "/opt/")
 LONGEST_STATEMENT = 40   # lines
@@ -200,8 +201,9 @@ def expression_at(line: str, column: int) -> str:
         at += freed.end()
     assigned = re.match(r"(?:[-+*/%&|^]|<<|>>)?=(?!=)|\+\+|--", line[at:])
     if assigned:
-        before = expression_before(line[:at].rstrip())
-        if before:
+        is_in_front = assigned[0] in ("++", "--") and re.match(r"\s*[A-Za-z_(]", line[at + 2:])
+        before = "" if is_in_front else expression_before(line[:at].rstrip())
+        if before and before not in STATEMENTS:
             return before
         at += len(assigned[0])
     if re.match(r"\w+::", line[at:]):
@@ -226,7 +228,7 @@ def prefixed(line: str, at: int) -> str:
 def postfixed(line: str, at: int) -> str:
     """A name with its indexes and members."""
     name = IDENTIFIER.match(line, at)
-    if not name or name[0] in ("return", "if", "while", "for"):
+    if not name or name[0] in STATEMENTS:
         return ""
     end = after_postfixes(line, name.end())
     if line[:at].rstrip().endswith(("->", ".")):

@@ -42,16 +42,18 @@ NOTES = ("", "reductions", "detach clauses", "priority clauses", "cancellations"
          "calls that ask for the thread's number", "teams of one thread by the program", "runs without OMPT",
          "pieces without room", "processes that were forked", "words that regions have one thread from there on",
          "words that regions have more threads from there on", "leagues of one team by the program")
-ATOMIC, FREED, LIBRARY, FRAME, OUTERMOST, STACK, COUNTED, ROW_SHIFT, LARGE, SET, LONGEST_NUMBER, LANE_STEPS = numbers(
-    "ATOMIC FREED LIBRARY FRAME OUTERMOST STACK COUNTED ROW_SHIFT LARGE SET LONGEST_NUMBER LANE_STEPS")
+(ATOMIC, FREED, LIBRARY, FRAME, OUTERMOST, STACK, COUNTED, ROW_SHIFT, LARGE, SET, LONGEST_NUMBER, LANE_STEPS, FLAGS, FLAGS_SHIFT,
+ FLAGS_EXPLICIT, BEGINS) = numbers("ATOMIC FREED LIBRARY FRAME OUTERMOST STACK COUNTED ROW_SHIFT LARGE SET LONGEST_NUMBER "
+                                   "LANE_STEPS FLAGS FLAGS_SHIFT FLAGS_EXPLICIT BEGINS")
 MARKS = (1 << ROW_SHIFT) - 1
 WRITES = 32      # of a step: the program writes there, be the step a load or a store
 UNDEFERRED, FINAL = 0x8000000, 0x20000000
 FORMAT = struct.Struct("<QqIIiHBB")
-HEADER = b"taskback trace 4 "
+HEADER = b"taskback trace 5 "
 PAGE = 4096     # bytes of text in front of the events
 PIECE = 2048    # events
-FAMILIES, CONTROL, END_MARK, SHIFTS = 128, 2, 8, (7, 9, 11, 13)    # of packed pieces (packing.h)
+FAMILIES, CONTROL, END_MARK = 128, 2, 8     # of packed pieces (packing.h)
+STAMP_PART, PARTS = 4, struct.Struct("<8I")
 
 
 class Event(NamedTuple):
@@ -120,28 +122,19 @@ def pieces_of(data: bytes | memoryview) -> Iterator[tuple[Event, int, int]]:
 
 def unpacked(head: Event, data: bytes | memoryview) -> Iterator[Event]:
     """The events of a packed piece, behind its first one (packing.h)."""
-    last = [head._replace(value=0)] * FAMILIES
-    stamp, task, at = head.stamp, head.task, 0
+    before, at = PARTS.unpack(FORMAT.pack(*head._replace(value=0))), 0
+    last = [before] * FAMILIES
     while at < len(data):
         control = int.from_bytes(data[at:at + CONTROL], "little")
+        parts = [*last[control % FAMILIES]]
+        parts[STAMP_PART:STAMP_PART + 2] = (before[STAMP_PART] + (control >> 15)) % 2**32, before[STAMP_PART + 1]
         at += CONTROL
-        words, lengths = [0] * 4, [control >> shift & 3 for shift in SHIFTS]
-        for number, length in enumerate(lengths):
-            words[number] = int.from_bytes(data[at:at + 4 * length], "little", signed=True)
-            at += 4 * length
-        address, value, order, rest = words
-        prior = last[control % FAMILIES]
-        step = order & 0xffff, order >> 16
-        stamp, task = (order % 2**32, order >> 32) if lengths[2] == 2 else (stamp + step[0], task + step[1])
-        stamp, task = stamp % 2**32, task % 2**32
-        place, size, kind, mark = prior.place, prior.size, prior.kind, prior.mark
-        if lengths[3]:
-            place = (rest + 2**31) % 2**32 - 2**31
-        if lengths[3] == 2:
-            size, kind, mark = rest >> 32 & 0xffff, rest >> 48 & 0xff, rest >> 56 & 0xff
-        event = Event((prior.address + address) % 2**64, (prior.value + value) % 2**64, stamp, task, place, size, kind, mark)
-        last[control % FAMILIES] = event
-        yield event
+        for number in range(len(parts)):
+            if control >> 7 + number & 1:
+                parts[number] = int.from_bytes(data[at:at + 4], "little")
+                at += 4
+        before = last[control % FAMILIES] = tuple(parts)
+        yield Event._make(FORMAT.unpack(PARTS.pack(*parts)))
 
 
 def farther(event: Event, distance: int) -> Event:
@@ -162,8 +155,17 @@ def lanes(lane: Event, events: list[Event]) -> Iterator[Event]:
             yield (farther(event, number * stride) if number else event)._replace(stamp=lane.stamp)
 
 
-def unfolded(events: list[Event]) -> Iterator[Event]:
-    """These events, of which some stand for several (event.h)."""
+def making(event: Event, stack: int) -> Iterator[Event]:
+    """The events of a task's making, which says of its record, and maybe of its start on a thread with this stack."""
+    child, used = event.value & 0xffffffff, event.value >> 32
+    yield event._replace(kind=MEMORY, value=event.size, stamp=event.stamp - 1, place=0, size=0, mark=0)
+    yield event._replace(address=child, value=(event.mark & FLAGS) << FLAGS_SHIFT | FLAGS_EXPLICIT, size=0, mark=0)
+    if event.mark & BEGINS:
+        yield Event(stack if used else 0, used, event.stamp, child, 0, 0, START, STACK if used else 0)
+
+
+def unfolded(events: list[Event], stack: int) -> Iterator[Event]:
+    """These events of a thread with this stack, of which some stand for several (event.h)."""
     left = iter(range(len(events)))
     for at in left:
         event = events[at]
@@ -173,8 +175,7 @@ def unfolded(events: list[Event]) -> Iterator[Event]:
             while events[at + 1].kind in (READ, WRITE):
                 at = next(left)
         elif event.kind == CREATE and size:
-            yield event._replace(kind=MEMORY, value=size, place=0, size=0, stamp=before)
-            yield event._replace(address=event.value & 0xffffffff, value=event.value >> 32, size=0)
+            yield from making(event, stack)
         elif event.kind == END and size:
             is_long = size > LONGEST_NUMBER
             yield event._replace(kind=WRITE, mark=FREED | FRAME | OUTERMOST, address=event.address + event.value - size,
@@ -187,6 +188,7 @@ def unfolded(events: list[Event]) -> Iterator[Event]:
 def in_order(data: bytes) -> list[Event]:
     """The events of each thread in its order: its first piece, which it fills again and again, has its newest ones."""
     threads: dict[int | None, list[list[Event]]] = {}
+    stacks: dict[int | None, int] = {}
     for head, begin, end in pieces_of(data):
         own = memoryview(data)[begin:end]
         if head.kind == CHUNK and head.value:
@@ -194,13 +196,15 @@ def in_order(data: bytes) -> list[Event]:
         else:
             piece = [Event._make(fields) for fields in FORMAT.iter_unpack(own)]
             piece = piece[:next((number for number, event in enumerate(piece) if event.kind == 0), len(piece))]
-        threads.setdefault(head.address if head.kind == CHUNK else None, []).append(piece if head.kind == CHUNK else [head, *piece])
+        thread = head.address if head.kind == CHUNK else None
+        stacks[thread] = head.stamp | head.task << 32
+        threads.setdefault(thread, []).append(piece if head.kind == CHUNK else [head, *piece])
     for thread, pieces in threads.items():
         if thread is not None:
             pieces.append(pieces.pop(0))
             if len(pieces) > 1 and len(pieces[-1]) == PIECE - 1 and pieces[-1] == pieces[-2]:
                 pieces.pop()
-    return [event for pieces in threads.values() for piece in pieces for event in unfolded(piece)]
+    return [event for thread, pieces in threads.items() for piece in pieces for event in unfolded(piece, stacks[thread])]
 
 
 def count_events(path: str) -> int:

@@ -1,5 +1,6 @@
 """Events that stand for several: both readers make the same of them, and nothing of what the program does is lost."""
 
+import itertools
 import json
 import subprocess
 import unittest
@@ -74,6 +75,52 @@ TASKS = """int main(void) {
 }
 """
 
+MANY_TASKS = """static int x[3000];
+int main(void) {
+#pragma omp parallel
+#pragma omp single
+    for (int i = 0; i < 3000; i++) {
+#pragma omp task firstprivate(i) mergeable
+        x[i] = i;
+    }
+    return x[9] != 9;
+}
+"""
+# Random events, of which each part of four bytes may be as before: packed in both ways, and read again.
+PACKING = """#include <stdio.h>
+#include <stdlib.h>
+#include <string.h>
+#include "packing.c"
+enum { COUNT = 2048, WORDS = COUNT * PARTS };
+static uint32_t words[WORDS], again[WORDS];
+static unsigned char each[COUNT * LONGEST_EVENT], wide[COUNT * LONGEST_EVENT];
+static const struct event *last[FAMILIES];
+static struct event *begin(uint32_t *of) {
+    for (int i = 0; i < FAMILIES; i++)
+        last[i] = (struct event *)of;
+    return (struct event *)of + 1;
+}
+int main(void) {
+    const struct event *behind = (struct event *)(words + WORDS);
+    for (int i = PARTS; i < WORDS; i++) {
+        int is_stamp = i % PARTS == STAMP_PART, is_kind = i % PARTS == PARTS - 1;
+        words[i] = rand() % 2 ? words[i - PARTS * (1 + rand() % (i / PARTS))] : (uint32_t)rand() * (is_kind ? 1 : 3);
+        words[i] = is_kind ? words[i] % 0x40000000 & 0xff3fffff : is_stamp && rand() % 2 ? words[i - PARTS] + 1 : words[i];
+    }
+    const unsigned char *from = each, *end = pack_each(last, begin(words), behind, each);
+#ifdef __x86_64__
+    if (is_wide && (pack_wide(last, begin(words), behind, wide) - wide != end - each || memcmp(each, wide, (size_t)(end - each))))
+        return 1;
+#endif
+    memcpy(again, words, PARTS * PART_SIZE);
+    for (struct event *event = begin(again); event != (struct event *)(again + WORDS); event++) {
+        if (!(from = unpack_event(last, event, from, end)))
+            return 2;
+    }
+    return from != end ? 3 : memcmp(words, again, sizeof words) ? 4 : 0;
+}
+"""
+
 
 def lanes_of(events):
     """What each lane loads and stores: (whether it stores, address, size)."""
@@ -84,6 +131,13 @@ def lanes_of(events):
         elif event.kind in (t.READ, t.WRITE) and found and not event.mark & t.FREED:
             found[-1] += [(event.kind == t.WRITE, each.address, each.size) for each in elements(event)]
     return found
+
+
+def events_of(head, data):
+    """Those of a piece, as they stand there: one that isn't packed ends where an event has no kind."""
+    if head.value:
+        return t.unpacked(head, data)
+    return itertools.takewhile(lambda event: event.kind, map(t.Event._make, t.FORMAT.iter_unpack(data)))
 
 
 @support.needs_clang
@@ -149,6 +203,30 @@ class Folded(support.Recorded):
         ended = [(event.task, in_front[event]) for event in events if event.kind == t.END]
         frames = [task for task, event in ended if event.mark & t.FREED and event.mark & t.OUTERMOST and event.task == task]
         self.assertEqual((len(ended), len(frames)), (6, 3))
+
+    def test_a_start_at_once(self):
+        """Where one thread makes a task and starts it at once, the making says so."""
+        path, _ = self.record(self.compile_text(MANY_TASKS), 1)
+        with open(path, "rb") as file:
+            data = file.read()
+        raw = [event for head, begin, end in t.pieces_of(data) for event in events_of(head, data[begin:end])]
+        self.assertEqual(sum(event.kind == t.CREATE and event.mark & t.BEGINS != 0 for event in raw), 3000)
+        self.assertFalse(any(event.kind == t.START for event in raw))
+        events = support.Trace(path).events
+        self.assertEqual(self.judged(path), len(events))
+        started = [(made.address, event.task, event.mark) for made, event in zip(events, events[1:]) if event.kind == t.START]
+        self.assertEqual(len(started), 3000)
+        self.assertTrue(all(made == task and mark == t.STACK for made, task, mark in started))
+        flags = {event.value for event in events if event.kind == t.CREATE}
+        self.assertEqual(len(flags), 1)
+        self.assertTrue(flags.pop() & t.FLAGS_EXPLICIT)
+
+    def test_packing(self):
+        source, made = self.path("program.c"), self.path("program")
+        with open(source, "w", encoding="utf-8") as file:
+            file.write(PACKING)
+        subprocess.run([building.need_clang(), "-O1", "-I", building.RECORDER, source, "-o", made], check=True)
+        self.assertEqual(subprocess.run([made], check=False).returncode, 0)
 
     def test_tasks_of_several_threads(self):
         events, _ = self.traced(TASKS, 8)

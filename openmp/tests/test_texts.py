@@ -17,6 +17,7 @@ class Expressions(unittest.TestCase):
                 (" a[i][j] += b->x[2];", 9, "a[i][j]"), (" a[i][j] += b->x[2];", 15, "b->x[2]"),
                 ("   *p = 3;", 6, "*p"), ("   x++;", 4, "x"), ("   (*p).x = 3;", 10, "(*p).x"),
                 ("  free(node->next);", 2, "node->next"), ("  last += node->value;", 16, "node->value"),
+                ("  return ++x;", 9, "x"), ("  return --*p;", 9, "*p"), ("  if (x > 1) ++a[i];", 13, "a[i]"), ("   a[i]++ * 2;", 7, "a[i]"),
                 ("  return x;", 2, ""), ("", 0, ""), ("  x", 40, "")):
             with self.subTest(line=line, column=mark + 1):
                 self.assertEqual(expression_at(line, mark + 1), wanted)
