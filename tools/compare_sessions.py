@@ -1,7 +1,7 @@
 #!/usr/bin/env python3
 """Compares the built program with another implementation on random sessions.
 
-    tools/compare_sessions.py --other 'COMMAND' [--program P] [--count N] [--seed S] [--keep DIR]
+    tools/compare_sessions.py --other 'COMMAND' [--program P] [--count N] [--seed S] [--keep DIR] [--seconds N]
     tools/compare_sessions.py --judge 'COMMAND' [--workers W] ..
 
 The COMMAND of `--other` gets a session on standard input, with `--limit L` after its words, and has
@@ -231,6 +231,15 @@ def answer(command: list[str], text: bytes, limit: int) -> Answer:
     return done.stdout, done.stderr, done.returncode
 
 
+def answer_within(command: list[str], text: bytes, limit: int, seconds: float) -> Answer | None:
+    """What the command answers, or None where that takes longer."""
+    try:
+        done = subprocess.run(command + ['--limit', str(limit)], input=text, capture_output=True, timeout=seconds)
+    except subprocess.TimeoutExpired:
+        return None
+    return done.stdout, done.stderr, done.returncode
+
+
 def judged(command: list[str], text: bytes, limit: int, workers: int, mine: Answer) -> bytes:
     """What the judge says against the program's answer, and nothing where it is right."""
     with tempfile.TemporaryDirectory() as folder:
@@ -299,6 +308,8 @@ def read_words() -> argparse.Namespace:
     args.add_argument('--count', type=int, default=2000)
     args.add_argument('--seed', type=int, default=1)
     args.add_argument('--keep', default='differing')
+    args.add_argument('--seconds', type=float, default=300, help='how long the command of --other may take for a session; one that takes longer is counted by itself')
+    args.add_argument('--jobs', type=int, default=os.cpu_count())
     return args.parse_args()
 
 
@@ -307,20 +318,24 @@ def main() -> None:
     workers = given.workers if given.judge else 1
     program = [given.program] + (['--workers', str(workers)] if given.judge else [])
 
-    def compare(seed: int) -> tuple[int, bytes, int, Answer, Answer | bytes]:
+    def compare(seed: int) -> tuple[int, bytes, int, Answer, Answer | bytes | None]:
         text, limit = pick_session(seed, program, workers)
         mine = answer(program, text, limit)
         if given.judge:
             against = judged(shlex.split(given.judge), text, limit, workers, mine)
             return seed, text, limit, mine, against or mine
-        return seed, text, limit, mine, answer(shlex.split(given.other), text, limit)
+        return seed, text, limit, mine, answer_within(shlex.split(given.other), text, limit, given.seconds)
 
     kinds: collections.Counter[str] = collections.Counter()
-    differing = refused = longest = 0
-    with ThreadPoolExecutor(max_workers=os.cpu_count()) as pool:
+    differing = refused = longest = long = late = 0
+    with ThreadPoolExecutor(max_workers=given.jobs) as pool:
         for seed, text, limit, mine, theirs in pool.map(compare, range(given.seed, given.seed + given.count)):
+            if theirs is None:
+                late += 1
+                continue
+            steps = len(STEP.findall(mine[0]))
             refused += mine[2] == 1
-            longest = max(longest, len(STEP.findall(mine[0])))
+            longest, long = max(longest, steps), long + (steps > 300)
             kinds.update(kinds_of(mine[0]))
             if mine != theirs:
                 differing += 1
@@ -331,7 +346,10 @@ def main() -> None:
                     print('seed %d (--limit %d) differs:\n  program %r\n  other   %r' % (seed, limit, mine, theirs))
     for kind, count in sorted(kinds.items()):
         print('%8d %s' % (count, kind))
-    print('%d sessions, %d of them with a refused program, up to %d steps: %d differences' % (given.count, refused, longest, differing))
+    print('%d sessions, %d of them with a refused program, %d with more than 300 steps, up to %d: %d differences' % (
+        given.count - late, refused, long, longest, differing))
+    if late:
+        print('%d more weren\'t compared: the command took more than %g seconds' % (late, given.seconds))
     sys.exit(1 if differing else 0)
 
 

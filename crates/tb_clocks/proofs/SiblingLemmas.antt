@@ -1,11 +1,11 @@
 -- Children and elder siblings, by the ids and the ordinals of tasks.
-use Rattle.std.proofs.Common.{◌≡◌, ◌≢◌, ◌==◌, ◌<◌, ℕ, List, [], ◌∷◌, Bool, true, false, ◌&&◌, refl, sym, ap, ap₂, ◌∙◌, subst, arith, nat_lt, Option, Some, None, slice_get, ⊎_elim, eq-eqb, ne_eqb}
+use Rattle.std.proofs.Common.{◌≡◌, ◌==◌, ◌<◌, ℕ, [], ◌∷◌, true, false, ◌&&◌, refl, sym, ap, ap₂, ◌∙◌, subst, arith, nat_lt, Option, Some, slice_get, ⊎_elim, eq-eqb, ne_eqb}
 use Rattle.std.proofs.lemmas.Bool.{cases_eq, false_from_ne_true}
 use Rattle.tb_model.specs.Facts.{History}
 use Rattle.tb_model.specs.Legal.{Cells, Legal}
 use Rattle.tb_model.specs.Names.{Name, is_child, is_elder, same_name}
 use Rattle.tb_model.proofs.TestLemmas.{same_refl, same_true}
-use Rattle.tb_clocks.specs.Known.{HasId, names_in, ordinal_of, parent_of}
+use Rattle.tb_clocks.specs.Known.{HasId, names_in, parent_of}
 use Rattle.tb_clocks.specs.Tree.{IsAbove}
 use Rattle.tb_clocks.proofs.TaskLemmas.{one_id}
 

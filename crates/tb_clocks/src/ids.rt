@@ -1,6 +1,6 @@
 //! The ids of tasks.
 
-ghost use Rattle.std.specs.Prelude.{◌≡◌, ◌∷◌, [], ℕ, IfOk, None, OnErr, OnOk, Some};
+ghost use Rattle.std.specs.Prelude.{◌≡◌, ◌∷◌, [], ℕ, IfOk, IsTrue, None, OnErr, OnOk, Some};
 ghost use Rattle.std.specs.Option.{option_copied};
 ghost use Rattle.tb_model.specs.declared.event.Event.{Event as AnEvent};
 ghost use Rattle.tb_model.specs.Names.{Name};
@@ -46,13 +46,34 @@ impl Ids {
         }
     }
 
-    /// The id of the task, if it was generated.
-    pub fn id(&self, name: &TaskName) -> Option<usize>
+    /// Whether this is the task with the id.
+    #[inline(always)]
+    fn is_of(&self, id: usize, name: &TaskName) -> bool
+        ensures { IsTrue result → (cells : Cells) (H : History) → AreIds cells H self.now → HasId H id name.now }
+    {
+        match self.names.get_index(id) {
+            Some(other) => *other == *name,
+            None => false,
+        }
+    }
+
+    /// The id of the task, if it was generated, where `before` is the id of the task of the step
+    /// before, or any: most steps are of that task, or of the one that was generated next, and
+    /// these are found without a hash.
+    pub fn id(&self, before: usize, name: &TaskName) -> Option<usize>
         ensures some { (cells : Cells) (H : History) (i : ℕ) → AreIds cells H self.now → result ≡ Some i → HasId H i name.now }
         ensures none { (cells : Cells) (H : History) → AreIds cells H self.now → result ≡ None → IsSpawned H name.now → ⊥ }
     {
+        if self.is_of(before, name) {
+            return Some(before);
+        }
+        let next = before.saturating_add(1);
+        if self.is_of(next, name) {
+            return Some(next);
+        }
         self.names.get_index_of(name)
     }
+
     /// The task with this id.
     pub fn name(&self, id: usize) -> Option<&TaskName>
         ensures { (cells : Cells) (H : History) → AreIds cells H self.now → (t : Name)

@@ -33,10 +33,10 @@ fn tasks_are_counted_in_the_order_of_spawning(rt: HostRuntime) {
     };
     let root = TaskName::root(rt.alloc());
     let child = second(rt.alloc());
-    let first = ids.id(&root);
-    let none = ids.id(&child);
+    let first = ids.id(0, &root);
+    let none = ids.id(0, &child);
     let taken = spawns(rt.alloc(), &mut ids, 1) && spawns(rt.alloc(), &mut ids, 2);
-    let last = ids.id(&child);
+    let last = ids.id(0, &child);
     forget(ids);
     assert!(rt; first == Some(0));
     assert!(rt; none.is_none());

@@ -26,9 +26,9 @@ use Rattle.tb_lanes.proofs.OwnLemmas.{ev}
 use Rattle.tb_lanes.proofs.RaceLemmas.{conflicts, none_named, race_named, some_shared}
 use Rattle.tb_stream.specs.declared.access.Access.{Access}
 use Rattle.tb_stream.specs.declared.mark.Mark.{Mark}
-use Rattle.tb_stream.specs.Halves.{Begins, Takes, conflict_of}
+use Rattle.tb_stream.specs.Halves.{Begins, IsFound, Takes, conflict_of}
 use Rattle.tb_stream.specs.Joins.{IsNow}
-use Rattle.tb_stream.specs.Keeping.{IsAccess}
+use Rattle.tb_stream.specs.Keeping.{IsAccess, behind}
 use Rattle.tb_stream.specs.Seen.{IsAdded, IsEvent, IsOf, Run, front, order}
 use Rattle.tb_stream.specs.declared.clocks.Clocks.{Clocks}
 use Rattle.tb_stream.proofs.ListLemmas.{the_same}
@@ -130,8 +130,11 @@ module _ (exclusion : Bool) (H : History) (v : Event) (r : Run) (begins : Begins
   named_so : (o : Option Race) → o ≡ newest_race (order r) (front r p) e.event (front r p) → o ≡ newest_race (order_of exclusion) H v H
   named_so o h = h ∙ ap (λ x. newest_race (order_of x) (front r p) e.event (front r p)) begins.exclusion_is ∙ ap₂ (λ G u. newest_race (order_of exclusion) G u G) same_front event_here
 
-  pub none_raced : kept.IsNewest (order r) r.entries p 0 → None ≡ newest_race (order_of exclusion) H v H
+  none_raced : kept.IsNewest (order r) r.entries p 0 → None ≡ newest_race (order_of exclusion) H v H
   none_raced is = named_so None (none_named r.exclusion r.entries p w 0 is e (at_read Synchronised r.entries p w) refl)
+
+  pub none_found : (o : Option Access) → o ≡ None → IsFound exclusion H v o → None ≡ newest_race (order_of exclusion) H v H
+  none_found o none found = none_raced (subst (λ x. kept.IsNewest (order r) r.entries p (behind x)) none (found r begins).1.newest)
 
   module _ (a : Access) (is : kept.IsNewest (order r) r.entries p (suc a.mark.at)) where
     abbrev x : ℕ

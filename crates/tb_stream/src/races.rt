@@ -29,6 +29,8 @@ fn is_full(events: usize, steps: u32) -> bool
 pub struct Races {
     alloc: Global,
     ids: Ids,
+    /// The id of the task of the newest event, and at first the root's.
+    newest: usize,
     tasks: Tasks,
     /// How many events there are.
     count: usize,
@@ -43,6 +45,7 @@ impl Races {
         Ok(Races {
             alloc,
             ids: Ids::new(alloc)?,
+            newest: 0,
             tasks: Tasks::new(alloc)?,
             count: 0,
             halves: Halves::new(alloc)?,
@@ -60,8 +63,7 @@ impl Races {
             → AreRaces cells H self.old
             → Legal cells (event.now ∷ H) → AreRaces cells (event.now ∷ H) self.new) }
     {
-        let race = self.push_action(&event.task, &event.action)?;
-        Ok(race)
+        self.push_action(&event.task, &event.action)
     }
 
     /// Adds the next event, this action of the task, as `push` does.
@@ -77,7 +79,7 @@ impl Races {
             → AreRaces cells H self.old → Legal cells (event_of name.now action.now ∷ H)
             → AreRaces cells (event_of name.now action.now ∷ H) self.new) }
     {
-        let Some(task) = self.ids.id(name) else {
+        let Some(task) = self.ids.id(self.newest, name) else {
             return Err(AllocError);
         };
         let at = self.count;
@@ -91,6 +93,7 @@ impl Races {
         self.tasks.push(self.alloc, task, action)?;
         self.ids.push(action)?;
         self.count = at + 1;
+        self.newest = task;
         Ok(race)
     }
 }

@@ -43,6 +43,10 @@ pub fn race_of(
         → k ≡ suc (length (own name.now H)) → IsFound true H (event_of name.now action.now) newest
         → IsFound false H (event_of name.now action.now) excluded → o ≡ Racing.race_of H (event_of name.now action.now)) }
 {
+    // most steps race with none
+    if newest.is_none() && excluded.is_none() {
+        return Ok(None);
+    }
     match race_with(ids, name, action, k, newest, false)? {
         Some(race) => Ok(Some(race)),
         None => race_with(ids, name, action, k, excluded, true),

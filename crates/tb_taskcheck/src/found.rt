@@ -61,8 +61,7 @@ impl Found {
         ensures { OnOk result ((H : History) → IsFound H self.old
             → IsFound (event.now ∷ H) self.new) }
     {
-        let named = self.races.push(event)?;
-        match named {
+        match self.races.push(event)? {
             Some(race) => self.list(&race),
             None => Ok(()),
         }

@@ -1,4 +1,3 @@
-use Rattle.std.proofs.Common.{◌∙◌}
 use Rattle.tb_clocks.proofs.SiblingLemmas.{child_is, child_none}
 use Rattle.tb_clocks.proofs.tasks.Tasks.is_child.Goals as goal
 
