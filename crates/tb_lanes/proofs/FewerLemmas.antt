@@ -7,7 +7,7 @@ use Rattle.tb_races.specs.Orders.{Order}
 use Rattle.tb_lanes.specs.declared.tasks.Tasks.{Tasks}
 use Rattle.tb_lanes.specs.declared.clocks.Clocks.{Clocks}
 use Rattle.tb_lanes.specs.Bounds.{IsRising, bound_in}
-use Rattle.tb_lanes.specs.Clocks.{AreTasks, IsLane, IsLow, IsSound, Lanes, is_after, is_below, is_told, lane, lanes_of, number, origin, origin_reaches, previous, reaches, row_in, row_of_step, says}
+use Rattle.tb_lanes.specs.Clocks.{Adds, AreClocks, AreTasks, IsLane, IsLow, IsSound, Lanes, is_after, is_below, is_told, lane, lanes_of, number, origin, origin_reaches, previous, reaches, row_in, row_of_step, says}
 use Rattle.tb_lanes.specs.Fewer.{AddsFor, AreFewer, BeginsFor, IsClosedFor, lanes_with, says_of}
 use Rattle.tb_lanes.specs.Needing.{IsTouched}
 use Rattle.tb_lanes.proofs.AfterLemmas.{Reached, reach_on, reached, reaches_so}
@@ -17,6 +17,37 @@ use Rattle.tb_lanes.proofs.SoundLemmas.{first_reaches, origin_none, own_none, ow
 
 abbrev lane_of : Clocks → ℕ → ℕ
 lane_of clocks = lane (lanes_of clocks)
+
+-- ---- exact clocks say what anybody asks for
+
+module _ (o : Order) (entries : List Entry) (tasks : Tasks) where
+  pub exact_fewer : (n : ℕ) (clocks : Clocks) → AreClocks o entries tasks n clocks → AreFewer (λ q. true) o entries tasks n clocks
+  exact_fewer n clocks exact = record {
+    bounds = λ p. bound_in (row_of_step clocks p);
+    listed = exact.listed;
+    laned = exact.laned;
+    within = exact.within;
+    rising = exact.rising;
+    lanes = exact.lanes;
+    low = exact.lanes.low;
+    sound = λ p q l m h.
+        exact.lanes.told p l q m ∙ or_right (lane_of clocks p == lane_of clocks q && nat_lt q p) _ (or_left (says (bound_in (row_of_step clocks p)) (lane_of clocks q) q) _ h);
+    enough = λ p q l m a h. sym (exact.lanes.told p l q m) ∙ h;
+  }
+
+  pub closed_exact : (clocks : Lanes) (row : ℕ → ℕ) (k p : ℕ) → IsSound o entries tasks clocks row k p → IsClosedFor (λ q. true) o entries tasks clocks row k p
+  closed_exact clocks row k p so s q l m a t h =
+      ⊎_elim (λ e. subst (λ y. is_told o entries tasks clocks row k p y ≡ true) (eqb-true s q e) t) (λ d. so.closed s q l m t d)
+      (or_cases (s == q) (is_after o entries s q) h)
+
+  pub adds_exact : (clocks : Clocks) (k p s : ℕ) (old new : ℕ → ℕ) → IsLow old p → AddsFor (λ q. true) o entries tasks clocks k p s old new
+      → Adds o entries tasks (lanes_of clocks) k p s old new
+  adds_exact clocks k p s old new low adds = record {
+    kept = adds.kept;
+    reached = λ q l h. adds.reached q l refl h;
+    sound = adds.sound;
+    low = adds.low low;
+  }
 
 module _ (asked : ℕ → Bool) (o : Order) (entries : List Entry) (tasks : Tasks) (n : ℕ) (clocks : Clocks) (are : AreTasks entries tasks)
     (told : AreFewer asked o entries tasks n clocks) (long : n ≤ length entries) (p : ℕ) (inside : p < n) where

@@ -4,7 +4,7 @@ ghost use Rattle.std.specs.Prelude.{◌≡◌, ◌<◌, ◌≤◌, ℕ, List, Bo
 ghost use Rattle.tb_steps.specs.Entries.{Entry};
 ghost use Rattle.tb_races.specs.Orders.{Order};
 ghost use Rattle.tb_lanes.specs.Clocks as is;
-ghost use Rattle.tb_lanes.specs.Clocks.{AreTasks, AreClocks, IsShaped, kept_in, lane, lanes_of, row_at, row_in, row_of_step};
+ghost use Rattle.tb_lanes.specs.Clocks.{AreTasks, IsShaped, kept_in, lane, lanes_of, row_at, row_in, row_of_step};
 ghost use Rattle.tb_lanes.specs.Bounds.{IsRising};
 ghost use Rattle.tb_lanes.specs.Fewer.{AreFewer};
 
@@ -33,10 +33,7 @@ pub fn reaches(tasks: &Tasks, clocks: &Clocks, late: usize, early: usize) -> boo
     requires laned { length clocks.now.lanes.items ≡ length clocks.now.of.items }
     requires late { late < length clocks.now.of.items }
     requires early { early ≤ late }
-    ensures same { (o : Order) (entries : List Entry) (n : ℕ) → AreTasks entries tasks.now
-        → AreClocks o entries tasks.now n clocks.now → late < n
-        → result ≡ is.reaches o entries late early }
-    ensures fewer { (asked : ℕ → Bool) (o : Order) (entries : List Entry) (n : ℕ)
+    ensures { (asked : ℕ → Bool) (o : Order) (entries : List Entry) (n : ℕ)
         → AreTasks entries tasks.now → AreFewer asked o entries tasks.now n clocks.now → late < n
         → (IsTrue result → IsTrue (is.reaches o entries late early))
         × (IsTrue (asked early) → result ≡ is.reaches o entries late early) }

@@ -6,7 +6,7 @@ ghost use Rattle.tb_races.specs.Orders.{Order};
 ghost use Rattle.tb_lanes.specs.Bounds.{AreRising, IsRising, bound_among, bound_in};
 ghost use Rattle.tb_lanes.specs.Clocks as is;
 ghost use Rattle.tb_lanes.specs.Fewer.{AddsFor, AreFewer, IsClosedFor};
-ghost use Rattle.tb_lanes.specs.Clocks.{Adds, AreClocks, AreTasks, IsShaped, IsSound, adds, is_told, lane, lanes_of, row_of_step, says};
+ghost use Rattle.tb_lanes.specs.Clocks.{AreTasks, IsShaped, adds, is_told, lane, lanes_of, row_of_step, says};
 
 use std::alloc::{AllocError, Global};
 use tb_lanes::{
@@ -28,12 +28,7 @@ pub fn is_merged(
     requires laned { waiter.now.at ≡ length clocks.now.lanes.items }
     requires at { waiter.now.at < length tasks.now.numbers.items }
     requires early { early < waiter.now.at }
-    ensures same { (o : Order) (entries : List Entry) (row : ℕ → ℕ) → AreTasks entries tasks.now
-        → AreClocks o entries tasks.now waiter.now.at clocks.now
-        → bound ≡ row (lane (lanes_of clocks.now) early)
-        → result ≡ is_told o entries tasks.now (lanes_of clocks.now) row waiter.now.lane
-        waiter.now.at early }
-    ensures fewer { (asked : ℕ → Bool) (o : Order) (entries : List Entry) (row : ℕ → ℕ)
+    ensures { (asked : ℕ → Bool) (o : Order) (entries : List Entry) (row : ℕ → ℕ)
         → AreTasks entries tasks.now
         → AreFewer asked o entries tasks.now waiter.now.at clocks.now
         → bound ≡ row (lane (lanes_of clocks.now) early)
@@ -54,10 +49,7 @@ fn origin_reaches(tasks: &Tasks, clocks: &Clocks, at: usize, early: usize) -> bo
     requires listed { at ≡ length clocks.now.of.items }
     requires laned { at ≡ length clocks.now.lanes.items }
     requires at { at < length tasks.now.numbers.items }
-    ensures same { (o : Order) (entries : List Entry) → AreTasks entries tasks.now
-        → early < length entries → AreClocks o entries tasks.now at clocks.now
-        → result ≡ is.origin_reaches o entries (is.origin tasks.now at) early }
-    ensures fewer { (asked : ℕ → Bool) (o : Order) (entries : List Entry)
+    ensures { (asked : ℕ → Bool) (o : Order) (entries : List Entry)
         → AreTasks entries tasks.now → early < length entries
         → AreFewer asked o entries tasks.now at clocks.now
         → (IsTrue result → IsTrue (is.origin_reaches o entries (is.origin tasks.now at) early))
@@ -89,13 +81,7 @@ pub fn join(
     ensures rising { OnOk result (
         ((p : ℕ) → p < waiter.now.at → IsRising (row_of_step clocks.now p))
         → AreRising rows.old.items → AreRising rows.new.items) }
-    ensures more { OnOk result ((o : Order) (entries : List Entry) → AreTasks entries tasks.now
-        → AreClocks o entries tasks.now waiter.now.at clocks.now → AreRising rows.old.items
-        → IsSound o entries tasks.now (lanes_of clocks.now) (bound_among rows.old.items)
-        waiter.now.lane waiter.now.at
-        → Adds o entries tasks.now (lanes_of clocks.now) waiter.now.lane waiter.now.at place
-        (bound_among rows.old.items) (bound_among rows.new.items)) }
-    ensures fewer { OnOk result ((asked : ℕ → Bool) (o : Order) (entries : List Entry)
+    ensures more { OnOk result ((asked : ℕ → Bool) (o : Order) (entries : List Entry)
         → AreTasks entries tasks.now
         → AreFewer asked o entries tasks.now waiter.now.at clocks.now → AreRising rows.old.items
         → IsClosedFor asked o entries tasks.now (lanes_of clocks.now)

@@ -1,28 +1,11 @@
 use Rattle.std.proofs.Common.{◌≡◌, ◌≢◌, ◌<◌, ◌≤◌, ◌-◌, length, sym, ap, ◌∙◌, arith}
 use Rattle.std.proofs.lemmas.Bool.{both_ways, false≢true, false_from_ne_true}
 use Rattle.tb_lanes.specs.Clocks as is
-use Rattle.tb_lanes.specs.Clocks.{lanes_of, origin}
+use Rattle.tb_lanes.specs.Clocks.{origin}
 use Rattle.tb_lanes.proofs.ClockLemmas.{within_any}
 use Rattle.tb_lanes.proofs.FewerLemmas.{below_reached, none_asked, up_asked, up_reached}
-use Rattle.tb_lanes.proofs.JoinLemmas.{not_reached, reached_below, reached_above, reached_not}
+use Rattle.tb_lanes.proofs.JoinLemmas.{not_reached}
 use Rattle.tb_lanes.proofs.clocks.reaches.Goals as goal
-
-pub returns-then-is_below-clause-same : goal.returns-then-is_below-clause-same
-returns-then-is_below-clause-same c o entries n are told late =
-    let l = c.up in
-    let s = l.invariant.same o entries n are told late in
-    sym
-    (s.1
-    ∙ reached_below o entries c.args.tasks.now n (lanes_of c.args.clocks.now) are told.lanes (omega (arith, told.listed, c.requires.listed, are.numbers_listed)) l.at s.0 c.args.early (omega (arith, c.requires.early, late)) (sym (c.is_below.ensures (told.rising l.at s.0)) ∙ c.if-is_below.true))
-
-pub returns-then-index-eq0-clause-same : goal.returns-then-index-eq0-clause-same
-returns-then-index-eq0-clause-same c o entries n are told late =
-    let l = c.up in
-    let s = l.invariant.same o entries n are told late in
-    let none : origin c.args.tasks.now l.at ≡ 0 = sym (within_any c.args.tasks.now.origins.items l.at 0 c.index.result.now (omega (arith, l.invariant.listed, c.requires.listed, c.requires.shaped.origins_listed)) c.index.ensures) ∙ c.if-index-eq0.true in
-    sym
-    (s.1
-    ∙ reached_not o entries c.args.tasks.now n (lanes_of c.args.clocks.now) are told.lanes (omega (arith, told.listed, c.requires.listed, are.numbers_listed)) l.at s.0 c.args.early (omega (arith, c.requires.early, late)) (sym (c.is_below.ensures (told.rising l.at s.0)) ∙ c.if-is_below.false) none)
 
 pub up-preserved : goal.up-preserved
 up-preserved c =
@@ -31,15 +14,8 @@ up-preserved c =
     let some : origin c.args.tasks.now l.at ≢ 0 = λ z. c.if-index-eq0.false (within_any c.args.tasks.now.origins.items l.at 0 c.index.result.now (omega (arith, l.invariant.listed, c.requires.listed, c.requires.shaped.origins_listed)) c.index.ensures ∙ z) in
     let low = c.requires.shaped.low l.at (omega (arith, l.invariant.listed, c.requires.listed)) in record {
       listed = omega (arith, e, low, l.invariant.listed);
-      same = λ o entries n are told late.
-          let s = l.invariant.same o entries n are told late in (
-            omega (arith, e, low, s.0),
-            s.1
-                ∙ reached_above o entries c.args.tasks.now n (lanes_of c.args.clocks.now) are told.lanes (omega (arith, told.listed, c.requires.listed, are.numbers_listed)) l.at s.0 c.args.early (omega (arith, c.requires.early, late)) (sym (c.is_below.ensures (told.rising l.at s.0)) ∙ c.if-is_below.false) some
-                ∙ ap (λ m. is.reaches o entries (m - 1) c.args.early) (sym e),
-          );
-      fewer = λ asked o entries n are told late.
-          let s = l.invariant.fewer asked o entries n are told late in
+      so = λ asked o entries n are told late.
+          let s = l.invariant.so asked o entries n are told late in
           let long : n ≤ length entries = omega (arith, told.listed, c.requires.listed, are.numbers_listed) in
           let q : c.args.early < n = omega (arith, c.requires.early, late) in (
             omega (arith, e, low, s.0),
@@ -48,24 +24,17 @@ up-preserved c =
           );
     }
 
-pub returns-clause-same : goal.returns-clause-same
-returns-clause-same c o entries n are told late =
+pub returns-then-is_below : goal.returns-then-is_below
+returns-then-is_below c asked o entries n are told late =
     let l = c.up in
-    sym
-    ((l.invariant.same o entries n are told late).1
-    ∙ not_reached o entries l.at c.args.early (omega (arith, c.up-test.false)) (omega (arith, c.requires.early, c.requires.late, c.requires.listed, are.numbers_listed)))
-
-pub returns-then-is_below-clause-fewer : goal.returns-then-is_below-clause-fewer
-returns-then-is_below-clause-fewer c asked o entries n are told late =
-    let l = c.up in
-    let s = l.invariant.fewer asked o entries n are told late in
+    let s = l.invariant.so asked o entries n are told late in
     let r = s.1 (below_reached asked o entries c.args.tasks.now n c.args.clocks.now are told (omega (arith, told.listed, c.requires.listed, are.numbers_listed)) l.at s.0 c.args.early (sym (c.is_below.ensures (told.rising l.at s.0)) ∙ c.if-is_below.true)).1 in
     (λ h. r, λ a. sym r)
 
-pub returns-then-index-eq0-clause-fewer : goal.returns-then-index-eq0-clause-fewer
-returns-then-index-eq0-clause-fewer c asked o entries n are told late =
+pub returns-then-index-eq0 : goal.returns-then-index-eq0
+returns-then-index-eq0 c asked o entries n are told late =
     let l = c.up in
-    let s = l.invariant.fewer asked o entries n are told late in
+    let s = l.invariant.so asked o entries n are told late in
     let none : origin c.args.tasks.now l.at ≡ 0 = sym (within_any c.args.tasks.now.origins.items l.at 0 c.index.result.now (omega (arith, l.invariant.listed, c.requires.listed, c.requires.shaped.origins_listed)) c.index.ensures) ∙ c.if-index-eq0.true in (
       λ h. absurd (false≢true h),
       λ a. sym (false_from_ne_true (is.reaches o entries c.args.late c.args.early) (λ h.
@@ -74,10 +43,10 @@ returns-then-index-eq0-clause-fewer c asked o entries n are told late =
           (s.2 a h))),
     )
 
-pub returns-clause-fewer : goal.returns-clause-fewer
-returns-clause-fewer c asked o entries n are told late =
+pub returns : goal.returns
+returns c asked o entries n are told late =
     let l = c.up in
-    let s = l.invariant.fewer asked o entries n are told late in (
+    let s = l.invariant.so asked o entries n are told late in (
       λ h. absurd (false≢true h),
       λ a. sym (false_from_ne_true (is.reaches o entries c.args.late c.args.early) (λ h.
           both_ways (is.reaches o entries l.at c.args.early)

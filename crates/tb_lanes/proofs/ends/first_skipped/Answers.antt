@@ -1,7 +1,8 @@
-use Rattle.std.proofs.Common.{◌≡◌, ◌-◌, ◌+◌, ◌<◌, true, length, sym, ◌∙◌, subst, arith}
+use Rattle.std.proofs.Common.{◌≡◌, ◌-◌, ◌+◌, ◌<◌, true, length, subst, arith}
 use Rattle.tb_lanes.specs.Clocks.{end_at, reaches, skip_at}
 use Rattle.tb_lanes.proofs.ClockLemmas.{within_any}
 use Rattle.tb_lanes.proofs.EndLemmas.{passed_more}
+use Rattle.tb_lanes.proofs.FewerLemmas.{exact_fewer}
 use Rattle.tb_lanes.proofs.ends.first_skipped.Goals as goal
 
 pub back-preserved : goal.back-preserved
@@ -17,6 +18,6 @@ back-preserved c =
       within = omega (arith, skip, low, inside);
       passed = λ o entries are told is j m h.
           passed_more o entries at (omega (arith, c.requires.at, c.requires.listed, are.numbers_listed)) ends is c.requires.low i inside
-          (subst (λ y. reaches o entries at y ≡ true) e (sym (c.reaches.ensures.same o entries (at + 1) are told (omega arith)) ∙ c.if-reaches.true))
+          (subst (λ y. reaches o entries at y ≡ true) e ((c.reaches.ensures (λ q. true) o entries (at + 1) are (exact_fewer o entries c.args.tasks.now (at + 1) c.args.clocks.now told) (omega arith)).0 c.if-reaches.true))
           (λ n a b. l.invariant.passed o entries are told is n (omega (arith, a)) b) j (omega (arith, m, skip)) h;
     }

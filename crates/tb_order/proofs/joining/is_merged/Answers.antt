@@ -5,8 +5,8 @@ use Rattle.tb_lanes.proofs.ClockLemmas.{or_if, within_any}
 use Rattle.tb_order.proofs.joining.is_merged.Goals as goal
 use Rattle.tb_order.proofs.joining.is_merged.Goals.{then-waiter-lane, else-waiter-lane}
 
-pub returns-else-early-bound-clause-fewer : goal.returns-else-early-bound-clause-fewer
-returns-else-early-bound-clause-fewer c asked o entries row are told bound_is =
+pub returns-else-early-bound : goal.returns-else-early-bound
+returns-else-early-bound c asked o entries row are told bound_is =
     let clocks = c.args.clocks.now in
     let at = c.args.waiter.now.at in
     let k = c.args.waiter.now.lane in
@@ -19,5 +19,5 @@ returns-else-early-bound-clause-fewer c asked o entries row are told bound_is =
     false_from_ne_true (says row (lane (lanes_of clocks) q) q) (λ h. omega (arith, ltb-true q (row (lane (lanes_of clocks) q)) h, bound_is, c.if-early-bound.false)) in
     let same : is_told o entries c.args.tasks.now (lanes_of clocks) row k at q ≡ origin_reaches o entries (origin c.args.tasks.now at) q =
     or_if (k == lane (lanes_of clocks) q && nat_lt q at) _ (ap (λ b. b && nat_lt q at) (ne_eqb k (lane (lanes_of clocks) q) other)) ∙ or_if (says row (lane (lanes_of clocks) q) q) _ beyond in
-    let r = c.origin_reaches.ensures.fewer asked o entries are (omega (arith, c.requires.early, c.requires.at, are.numbers_listed)) told in
+    let r = c.origin_reaches.ensures asked o entries are (omega (arith, c.requires.early, c.requires.at, are.numbers_listed)) told in
     (λ h. same ∙ r.0 h, λ a. r.1 a ∙ sym same)

@@ -3,14 +3,12 @@ use Rattle.tb_lanes.specs.Bounds.{AreRising, bound_among, bound_in}
 use Rattle.tb_lanes.specs.Clocks.{is_told, lane, lanes_of, origin, says}
 use Rattle.tb_lanes.proofs.BoundLemmas.{first_bound, none_rising, says_both}
 use Rattle.tb_lanes.proofs.ClockLemmas.{within_any}
-use Rattle.tb_lanes.proofs.JoinLemmas.{adds_all, adds_low, adds_up, joined, joined_end, joined_up, low_more}
 use Rattle.tb_order.proofs.GatheredLemmas.{all_left, gathers, gathers_more, none_left}
 use Rattle.tb_order.proofs.joining.join.Goals as goal
 
 pub up-init : goal.up-init
 up-init c =
     let tasks = c.args.tasks.now in
-    let clocks = lanes_of c.args.clocks.now in
     let at = c.args.waiter.now.at in
     let place = c.args.place in
     let new = bound_among c.add_row.new.rows.items in
@@ -20,9 +18,7 @@ up-init c =
       front = omega arith;
       rows = refl;
       rising = λ each. c.in_ok-add_row.ensures.rising (none_rising c.new-more.result.items c.new-more.ensures.items) (c.in_ok-first.ensures.rising (each place c.requires.place));
-      same = λ o entries are told q m. joined o entries tasks at clocks are told.lanes (omega (arith, c.requires.at, are.numbers_listed)) place c.requires.place q m false new (told_by (lane clocks q) q);
-      low = λ o entries are told j q h. adds_low o entries tasks at clocks are told.lanes (omega (arith, c.requires.at, are.numbers_listed)) place c.requires.place at c.requires.place j q (sym (told_by j q) ∙ h);
-      fewer = λ asked o entries are told. gathers asked o entries tasks c.args.clocks.now at are told (omega (arith, c.requires.at, are.numbers_listed)) place c.requires.place new told_by;
+      gathered = λ asked o entries are told. gathers asked o entries tasks c.args.clocks.now at are told (omega (arith, c.requires.at, are.numbers_listed)) place c.requires.place new told_by;
     }
 
 pub up-smaller : goal.up-smaller
@@ -38,7 +34,6 @@ pub up-preserved : goal.up-preserved
 up-preserved c =
     let tasks = c.args.tasks.now in
     let stored = c.args.clocks.now in
-    let clocks = lanes_of stored in
     let at = c.args.waiter.now.at in
     let place = c.args.place in
     let l = c.up in
@@ -55,12 +50,7 @@ up-preserved c =
       front = omega (arith, e, low, l.invariant.front);
       rows = l.invariant.rows;
       rising = λ each. c.in_ok-add_row-3.ensures.rising (l.invariant.rising each) (c.in_ok-next.ensures.rising (each up under));
-      same = λ o entries are told q m.
-          joined o entries tasks at clocks are told.lanes (omega (arith, c.requires.at, are.numbers_listed)) up under q m (says old (lane clocks q) q) new (told_by (lane clocks q) q)
-          ∙ joined_up o entries (origin tasks l.at) c.index-in-up.result.now q (says old (lane clocks q) q) (sym e) (omega (arith, f, c.up-test.true))
-          ∙ l.invariant.same o entries are told q m;
-      low = λ o entries are told. low_more o entries tasks at clocks are told.lanes (omega (arith, c.requires.at, are.numbers_listed)) up under at under old new told_by (l.invariant.low o entries are told);
-      fewer = λ asked o entries are told. gathers_more asked o entries tasks stored at are told (omega (arith, c.requires.at, are.numbers_listed)) place l.at (omega (arith, l.invariant.front, c.requires.place)) (λ z. omega (arith, z, f, c.up-test.true)) up (omega (arith, e)) under old new told_by (l.invariant.fewer asked o entries are told);
+      gathered = λ asked o entries are told. gathers_more asked o entries tasks stored at are told (omega (arith, c.requires.at, are.numbers_listed)) place l.at (omega (arith, l.invariant.front, c.requires.place)) (λ z. omega (arith, z, f, c.up-test.true)) up (omega (arith, e)) under old new told_by (l.invariant.gathered asked o entries are told);
     }
 
 pub returns-then-is_merged-clause-rising : goal.returns-then-is_merged-clause-rising
@@ -70,53 +60,7 @@ pub returns-clause-rising : goal.returns-clause-rising
 returns-clause-rising c each up = c.in_ok-add_row-4.ensures.rising (subst AreRising (sym c.up.invariant.rows) up) (c.in_ok-row-2.ensures.rising (c.up.invariant.rising each))
 
 pub returns-then-is_merged-clause-more : goal.returns-then-is_merged-clause-more
-returns-then-is_merged-clause-more c o entries are told rise so =
-    let tasks = c.args.tasks.now in
-    let stored = c.args.clocks.now in
-    let clocks = lanes_of stored in
-    let at = c.args.waiter.now.at in
-    let k = c.args.waiter.now.lane in
-    let place = c.args.place in
-    let l = c.up in
-    let w : at < length entries = omega (arith, c.requires.at, are.numbers_listed) in
-    let inside : l.at < length tasks.origins.items = omega (arith, l.invariant.front, c.requires.place, c.requires.at, c.requires.shaped.origins_listed) in
-    let e : c.index-in-up.result.now ≡ origin tasks l.at = within_any tasks.origins.items l.at 0 c.index-in-up.result.now inside c.index-in-up.ensures in
-    let f : c.index.result.now ≡ origin tasks l.at = within_any tasks.origins.items l.at 0 c.index.result.now inside c.index.ensures in
-    let low = c.requires.shaped.low l.at (omega (arith, l.invariant.front, c.requires.place, c.requires.at)) in
-    let up = c.index-in-up.result.now - 1 in
-    let under : up < at = omega (arith, e, low, l.invariant.front, c.requires.place) in
-    let row = bound_among c.args.rows.now.items in
-    let more = bound_among l.more.items in
-    let next = bound_among c.add_row-then-is_merged.new.rows.items in
-    let rows = c.deref.ensures.value ∙ l.invariant.rows in
-    let lane_is : c.index-in-up-2.result.now ≡ lane clocks up =
-    within_any stored.lanes.items up 0 c.index-in-up-2.result.now (omega (arith, under, told.laned)) c.index-in-up-2.ensures in
-    let bound_is : c.bound_among.result ≡ row (lane clocks up) = c.bound_among.ensures (subst AreRising (sym rows) rise) ∙ ap₂ bound_among rows lane_is in
-    let merged : is_told o entries tasks clocks row k at up ≡ true = sym (c.is_merged.ensures.same o entries row are told bound_is) ∙ c.if-is_merged.true in
-    let both =
-    λ (j q : ℕ). says_both q (next j) (row j) (more j) (c.in_ok-add_row-2.ensures.bounds j ∙ ap₂ max (ap (λ r. bound_among r j) l.invariant.rows) (c.in_ok-row.ensures.bounds j)) in
-    adds_up o entries tasks at w clocks k place row more next so.low (l.invariant.low o entries are told) both up
-    (λ q m. joined_up o entries (origin tasks l.at) c.index-in-up.result.now q (says more (lane clocks q) q) (sym e) (omega (arith, f, c.up-test.true)) ∙ l.invariant.same o entries are told q m)
-    under so merged
-
-pub returns-clause-more : goal.returns-clause-more
-returns-clause-more c o entries are told rise so =
-    let tasks = c.args.tasks.now in
-    let clocks = lanes_of c.args.clocks.now in
-    let at = c.args.waiter.now.at in
-    let l = c.up in
-    let inside : l.at < length tasks.origins.items = omega (arith, l.invariant.front, c.requires.place, c.requires.at, c.requires.shaped.origins_listed) in
-    let f : c.index.result.now ≡ origin tasks l.at = within_any tasks.origins.items l.at 0 c.index.result.now inside c.index.ensures in
-    let row = bound_among c.args.rows.now.items in
-    let more = bound_among l.more.items in
-    let next = bound_among c.add_row-2.new.rows.items in
-    let both =
-    λ (j q : ℕ). says_both q (next j) (row j) (more j) (c.in_ok-add_row-4.ensures.bounds j ∙ ap₂ max (ap (λ r. bound_among r j) l.invariant.rows) (c.in_ok-row-2.ensures.bounds j)) in
-    adds_all o entries tasks at (omega (arith, c.requires.at, are.numbers_listed)) clocks c.args.waiter.now.lane c.args.place row more next so.low (l.invariant.low o entries are told) both
-    (λ q m. joined_end o entries (origin tasks l.at) q (says more (lane clocks q) q) (omega (arith, f, c.up-test.false)) ∙ l.invariant.same o entries are told q m)
-
-pub returns-then-is_merged-clause-fewer : goal.returns-then-is_merged-clause-fewer
-returns-then-is_merged-clause-fewer c asked o entries are told rise closed =
+returns-then-is_merged-clause-more c asked o entries are told rise closed =
     let tasks = c.args.tasks.now in
     let stored = c.args.clocks.now in
     let at = c.args.waiter.now.at in
@@ -136,13 +80,13 @@ returns-then-is_merged-clause-fewer c asked o entries are told rise closed =
     within_any stored.lanes.items up 0 c.index-in-up-2.result.now (omega (arith, under, told.laned)) c.index-in-up-2.ensures in
     let bound_is : c.bound_among.result ≡ row (lane (lanes_of stored) up) =
     c.bound_among.ensures (subst AreRising (sym rows) rise) ∙ ap₂ bound_among rows lane_is in
-    let merged = (c.is_merged.ensures.fewer asked o entries row are told bound_is).0 c.if-is_merged.true in
+    let merged = (c.is_merged.ensures asked o entries row are told bound_is).0 c.if-is_merged.true in
     let both =
     λ (j q : ℕ). says_both q (next j) (row j) (more j) (c.in_ok-add_row-2.ensures.bounds j ∙ ap₂ max (ap (λ r. bound_among r j) l.invariant.rows) (c.in_ok-row.ensures.bounds j)) in
-    all_left asked o entries tasks stored at are told (omega (arith, c.requires.at, are.numbers_listed)) c.args.place l.at (omega (arith, l.invariant.front, c.requires.place)) k row more next both (l.invariant.fewer asked o entries are told) up (λ z. omega (arith, z, f, c.up-test.true)) (omega (arith, e)) under closed merged
+    all_left asked o entries tasks stored at are told (omega (arith, c.requires.at, are.numbers_listed)) c.args.place l.at (omega (arith, l.invariant.front, c.requires.place)) k row more next both (l.invariant.gathered asked o entries are told) up (λ z. omega (arith, z, f, c.up-test.true)) (omega (arith, e)) under closed merged
 
-pub returns-clause-fewer : goal.returns-clause-fewer
-returns-clause-fewer c asked o entries are told rise closed =
+pub returns-clause-more : goal.returns-clause-more
+returns-clause-more c asked o entries are told rise closed =
     let tasks = c.args.tasks.now in
     let l = c.up in
     let inside : l.at < length tasks.origins.items = omega (arith, l.invariant.front, c.requires.place, c.requires.at, c.requires.shaped.origins_listed) in
@@ -152,4 +96,4 @@ returns-clause-fewer c asked o entries are told rise closed =
     let next = bound_among c.add_row-2.new.rows.items in
     let both =
     λ (j q : ℕ). says_both q (next j) (row j) (more j) (c.in_ok-add_row-4.ensures.bounds j ∙ ap₂ max (ap (λ r. bound_among r j) l.invariant.rows) (c.in_ok-row-2.ensures.bounds j)) in
-    none_left asked o entries tasks c.args.clocks.now c.args.waiter.now.at are told (omega (arith, c.requires.at, are.numbers_listed)) c.args.place l.at (omega (arith, l.invariant.front, c.requires.place)) c.args.waiter.now.lane row more next both (l.invariant.fewer asked o entries are told) (omega (arith, f, c.up-test.false))
+    none_left asked o entries tasks c.args.clocks.now c.args.waiter.now.at are told (omega (arith, c.requires.at, are.numbers_listed)) c.args.place l.at (omega (arith, l.invariant.front, c.requires.place)) c.args.waiter.now.lane row more next both (l.invariant.gathered asked o entries are told) (omega (arith, f, c.up-test.false))

@@ -1,8 +1,8 @@
-use Rattle.std.proofs.Common.{◌≡◌, ◌<◌, ◌≤◌, ◌||◌, ℕ, List, Bool}
+use Rattle.std.proofs.Common.{◌≡◌, ◌<◌, ◌≤◌, ℕ, List, Bool}
 use Rattle.tb_steps.specs.Entries.{Entry}
 use Rattle.tb_races.specs.Orders.{Order}
 use Rattle.tb_lanes.specs.Bounds.{AreRising, IsRising, bound_among}
-use Rattle.tb_lanes.specs.Clocks.{AreTasks, AreClocks, IsLow, says, lane, lanes_of, origin, reaches, origin_reaches, row_of_step}
+use Rattle.tb_lanes.specs.Clocks.{AreTasks, row_of_step}
 use Rattle.tb_lanes.specs.Fewer.{AreFewer}
 use Rattle.tb_order.specs.Gathered.{IsGathered}
 use Rattle.tb_order.proofs.joining.join.Given as goal
@@ -13,11 +13,7 @@ invariant-up l = record {
   front : l.at ≤ l.place;
   rows : l.rows.items ≡ l.fn.rows.items;
   rising : ((p : ℕ) → p < l.waiter.at → IsRising (row_of_step l.clocks p)) → AreRising l.more.items;
-  same : (o : Order) (entries : List Entry) → AreTasks entries l.tasks → AreClocks o entries l.tasks l.waiter.at l.clocks
-      → (q : ℕ) → q < l.waiter.at → (says (bound_among l.more.items) (lane (lanes_of l.clocks) q) q || origin_reaches o entries (origin l.tasks l.at) q) ≡ reaches o entries l.place q;
-  low : (o : Order) (entries : List Entry) → AreTasks entries l.tasks → AreClocks o entries l.tasks l.waiter.at l.clocks
-      → IsLow (bound_among l.more.items) l.waiter.at;
-  fewer : (asked : ℕ → Bool) (o : Order) (entries : List Entry) → AreTasks entries l.tasks → AreFewer asked o entries l.tasks l.waiter.at l.clocks
+  gathered : (asked : ℕ → Bool) (o : Order) (entries : List Entry) → AreTasks entries l.tasks → AreFewer asked o entries l.tasks l.waiter.at l.clocks
       → IsGathered asked o entries l.tasks l.clocks l.waiter.at l.place l.at (bound_among l.more.items);
 }
 

@@ -6,32 +6,18 @@ use Rattle.tb_lanes.proofs.ClockLemmas.{within_any}
 use Rattle.tb_lanes.proofs.JoinLemmas.{from_origin, not_from_origin}
 use Rattle.tb_order.proofs.joining.origin_reaches.Goals as goal
 
-pub returns-then-origin-early-clause-same : goal.returns-then-origin-early-clause-same
-returns-then-origin-early-clause-same c o entries are inside told =
-    let e : c.index-origin.result.now ≡ origin c.args.tasks.now c.args.at =
-    within_any c.args.tasks.now.origins.items c.args.at 0 c.index-origin.result.now (omega (arith, c.requires.at, c.requires.shaped.origins_listed)) c.index-origin.ensures in
-    sym (not_from_origin o entries (origin c.args.tasks.now c.args.at) c.args.early (omega (arith, e, c.if-origin-early.true)) inside)
-
-pub returns-clause-same : goal.returns-clause-same
-returns-clause-same c o entries are inside told =
-    let e : c.index-origin.result.now ≡ origin c.args.tasks.now c.args.at =
-    within_any c.args.tasks.now.origins.items c.args.at 0 c.index-origin.result.now (omega (arith, c.requires.at, c.requires.shaped.origins_listed)) c.index-origin.ensures in
-    let low = c.requires.shaped.low c.args.at c.requires.at in
-    c.reaches.ensures.same o entries c.args.at are told (omega (arith, e, low, c.if-origin-early.false))
-    ∙ sym (from_origin o entries (origin c.args.tasks.now c.args.at) c.index-origin.result.now c.args.early (sym e) (omega (arith, e, c.if-origin-early.false)))
-
-pub returns-then-origin-early-clause-fewer : goal.returns-then-origin-early-clause-fewer
-returns-then-origin-early-clause-fewer c asked o entries are inside told =
+pub returns-then-origin-early : goal.returns-then-origin-early
+returns-then-origin-early c asked o entries are inside told =
     let e : c.index-origin.result.now ≡ origin c.args.tasks.now c.args.at =
     within_any c.args.tasks.now.origins.items c.args.at 0 c.index-origin.result.now (omega (arith, c.requires.at, c.requires.shaped.origins_listed)) c.index-origin.ensures in
     (λ h. absurd (false≢true h), λ a. sym (not_from_origin o entries (origin c.args.tasks.now c.args.at) c.args.early (omega (arith, e, c.if-origin-early.true)) inside))
 
-pub returns-clause-fewer : goal.returns-clause-fewer
-returns-clause-fewer c asked o entries are inside told =
+pub returns : goal.returns
+returns c asked o entries are inside told =
     let e : c.index-origin.result.now ≡ origin c.args.tasks.now c.args.at =
     within_any c.args.tasks.now.origins.items c.args.at 0 c.index-origin.result.now (omega (arith, c.requires.at, c.requires.shaped.origins_listed)) c.index-origin.ensures in
     let low = c.requires.shaped.low c.args.at c.requires.at in
-    let r = c.reaches.ensures.fewer asked o entries c.args.at are told (omega (arith, e, low, c.if-origin-early.false)) in
+    let r = c.reaches.ensures asked o entries c.args.at are told (omega (arith, e, low, c.if-origin-early.false)) in
     let from : is.origin_reaches o entries (origin c.args.tasks.now c.args.at) c.args.early ≡ is.reaches o entries (c.index-origin.result.now - 1) c.args.early =
     from_origin o entries (origin c.args.tasks.now c.args.at) c.index-origin.result.now c.args.early (sym e) (omega (arith, e, c.if-origin-early.false)) in
     (λ h. from ∙ r.0 h, λ a. r.1 a ∙ sym from)

@@ -5,6 +5,7 @@ use Rattle.tb_lanes.specs.Linking.{order_of}
 use Rattle.tb_lanes.specs.Bounds.{AreRising, bound_among}
 use Rattle.tb_lanes.proofs.ClockLemmas.{within_any}
 use Rattle.tb_lanes.proofs.EndLemmas.{seen_more}
+use Rattle.tb_lanes.proofs.FewerLemmas.{adds_exact, closed_exact, exact_fewer}
 use Rattle.tb_order.proofs.JoinedLemmas.{joins_none, joins_one}
 use Rattle.tb_lanes.proofs.SoundLemmas.{adds_told, sound_more, stays_told, itself_told}
 use Rattle.tb_order.proofs.merging.merge.Goals as goal
@@ -37,8 +38,9 @@ back-preserved-then-is_merged c =
     within_any c.args.past.now.clocks.lanes.items c.index-end.result.now 0 c.index.result.now (omega (arith, e, (c.requires.row.each i inside).0, c.requires.waiting.front.clocks.laned)) c.index.ensures in
     let bound_is : c.bound_among-told.result ≡ row (lane clocks c.index-end.result.now) =
     c.bound_among-told.ensures (subst AreRising (sym c.deref.ensures.value) l.invariant.more.are.rising) ∙ ap₂ bound_among c.deref.ensures.value lane_is in
-    let merged = c.is_merged.ensures.same o entries row c.requires.waiting.by_task c.requires.waiting.front.clocks bound_is in
-    let told : is_told o entries tasks clocks row k at (end_at ends i) ≡ true = subst (λ y. is_told o entries tasks clocks row k at y ≡ true) e (sym merged ∙ c.if-is_merged.true) in record {
+    let merged =
+    (c.is_merged.ensures (λ q. true) o entries row c.requires.waiting.by_task (exact_fewer o entries tasks at c.args.past.now.clocks c.requires.waiting.front.clocks) bound_is).0 in
+    let told : is_told o entries tasks clocks row k at (end_at ends i) ≡ true = subst (λ y. is_told o entries tasks clocks row k at y ≡ true) e (merged c.if-is_merged.true) in record {
       within = omega (arith, skip, low, inside);
       more = l.invariant.more;
       seen = λ j m h q.
@@ -71,7 +73,9 @@ back-preserved-then-waits c =
     let next = bound_among c.join.new.rows.items in
     let each : (s < at) × (is_end_at entries s ≡ true) = subst (λ y. (y < at) × (is_end_at entries y ≡ true)) (sym e) (c.requires.row.each i inside) in
     let up = l.invariant.more.are.rising in
-    let more = c.in_ok-join.ensures.more o entries are stored up l.invariant.more.are.sound in
+    let was = l.invariant.more.are.sound in
+    let more = adds_exact o entries tasks c.args.past.now.clocks k at s row next was.low
+    (c.in_ok-join.ensures.more (λ q. true) o entries are (exact_fewer o entries tasks at c.args.past.now.clocks stored) up (closed_exact o entries tasks clocks row k at was)) in
     let link : links_at o entries at s ≡ true = sym (c.waits.ensures each.1) ∙ c.if-waits.true in
     let itself = itself_told o entries tasks are at w clocks told k row next s each.0 more in
     let stays = stays_told o entries tasks are at w clocks told k row next s each.0 more in

@@ -46,9 +46,9 @@ returns-in_ok-push-2-clause-so_far c =
     let bound_is : c.bound_among-told.result ≡ row (lane (lanes_of clocks) c0) =
     c.bound_among-told.ensures (subst AreRising (sym c.deref-2.ensures.value) is.rising) ∙ ap₂ bound_among c.deref-2.ensures.value lane_is in
     let unmet : is_told AllNeeds entries tasks (lanes_of clocks) row step.lane step.at c0 ≡ false =
-    sym ((c.is_merged.ensures.fewer (is_pending entries tasks step.at) AllNeeds entries row begun.by_task begun.front bound_is).1 offered.2) ∙ c.if-not-is_merged.true in
+    sym ((c.is_merged.ensures (is_pending entries tasks step.at) AllNeeds entries row begun.by_task begun.front bound_is).1 offered.2) ∙ c.if-not-is_merged.true in
     joined_found entries tasks clocks step begun old _ c0 c.requires.place is c.requires.last c.in_ok-push-2.ensures.items (none_reaches entries tasks clocks step begun old is c0 offered unmet) (c.in_ok-join.ensures.rising begun.front.rising is.rising)
-    (c.in_ok-join.ensures.fewer (is_pending entries tasks step.at) AllNeeds entries begun.by_task begun.front is.rising (closed_so entries tasks clocks step begun old is)) offered
+    (c.in_ok-join.ensures.more (is_pending entries tasks step.at) AllNeeds entries begun.by_task begun.front is.rising (closed_so entries tasks clocks step begun old is)) offered
 
 pub returns-in_ok-push-2-clause-more : goal.returns-in_ok-push-2-clause-more
 returns-in_ok-push-2-clause-more c q h = below_more AllNeeds c.args.entries.now c.args.needed.now.places.items c.push-then-not-is_merged.new.self.items c.args.place c.in_ok-push-2.ensures.items q h
@@ -74,7 +74,7 @@ returns-else-not-is_merged-clause-covered c =
     within_any clocks.lanes.items c0 0 c.index-2.result.now (omega (arith, c.requires.place, begun.front.laned)) c.index-2.ensures in
     let bound_is : c.bound_among-told.result ≡ row (lane (lanes_of clocks) c0) =
     c.bound_among-told.ensures (subst AreRising (sym c.deref-2.ensures.value) is.rising) ∙ ap₂ bound_among c.deref-2.ensures.value lane_is in
-    met_below entries tasks clocks step begun old is c0 offered ((c.is_merged.ensures.fewer (is_pending entries tasks step.at) AllNeeds entries row begun.by_task begun.front bound_is).0 c.if-not-is_merged.false)
+    met_below entries tasks clocks step begun old is c0 offered ((c.is_merged.ensures (is_pending entries tasks step.at) AllNeeds entries row begun.by_task begun.front bound_is).0 c.if-not-is_merged.false)
 
 pub returns-else-not-is_reached-clause-covered : goal.returns-else-not-is_reached-clause-covered
 returns-else-not-is_reached-clause-covered c =

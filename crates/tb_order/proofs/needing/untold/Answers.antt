@@ -26,7 +26,7 @@ loop-place-preserved c =
     let bound_is : c.bound-told.result ≡ bound_in (own_row clocks step) (lane (lanes_of clocks) x) =
     c.bound-told.ensures (subst IsRising (sym own) begun.begins.rising) ∙ ap₂ bound_in own lane_is in
     let known : c.is_merged-known.result ≡ is_known entries tasks clocks step x =
-    (c.is_merged-known.ensures.fewer (is_pending entries tasks step.at) AllNeeds entries (bound_in (own_row clocks step)) begun.by_task begun.front bound_is).1 (c.requires.pending i c.loop-place-test.true) in
+    (c.is_merged-known.ensures (is_pending entries tasks step.at) AllNeeds entries (bound_in (own_row clocks step)) begun.by_task begun.front bound_is).1 (c.requires.pending i c.loop-place-test.true) in
     c.in_ok-push_unless.ensures ∙ ap₂ (λ old b. old ++ cond (not b) (x ∷ []) []) c.loop-place.invariant known ∙ sym (filter_more f places i 0 c.loop-place-test.true)
 
 pub is_merged-known-requires-clause-early : goal.is_merged-known-requires-clause-early
