@@ -1,6 +1,6 @@
 -- A plan that was made at some time, and is taken now.
-use Rattle.std.proofs.Common.{◌≡◌, ◌<◌, ◌≤◌, ◌↔◌, ℕ, List, Bool, true, false, nat_le, length, reverse, sym, ap, ◌∙◌, subst, Option, Some, None, unwrap_or, option_map, arith, inl, inr}
-use Rattle.std.specs.Prelude.{Result, Ok, Err, IfSome, IfNone}
+use Rattle.std.proofs.Common.{◌≡◌, ◌<◌, ◌≤◌, ◌↔◌, ℕ, List, Bool, true, false, nat_le, length, reverse, refl, sym, ap, ◌∙◌, subst, Option, Some, None, unwrap_or, option_map, arith, inl, inr}
+use Rattle.std.specs.Prelude.{Result, Ok, Err, IfSome, IfNone, is_none}
 use Rattle.std.specs.List.{list_any}
 use Rattle.std.proofs.lemmas.Bool.{both_ways}
 use Rattle.std.proofs.lemmas.Bool.Decides.{nat_tests}
@@ -12,8 +12,8 @@ use Rattle.tb_model.specs.declared.step_id.StepId.{StepId}
 use Rattle.tb_model.specs.Names.{Name}
 use Rattle.tb_model.specs.Facts.{is_spawned, ends}
 use Rattle.tb_model.specs.Journal.{hist}
-use Rattle.tb_model.specs.Program.{Program}
-use Rattle.tb_model.specs.Hindrances.{By, Hindrance, refusal_of, next_event}
+use Rattle.tb_model.specs.Program.{Program, planned, zero_ℤ}
+use Rattle.tb_model.specs.Hindrances.{By, Hindrance, in_the_way, refusal_of, next_event}
 use Rattle.tb_plan.specs.declared.planned.Plan.{Plan}
 use Rattle.tb_core.specs.declared.step_refusal.StepRefusal.{StepRefusal}
 use Rattle.tb_core.specs.declared.step_refusal.StepRefusal.TheVariants.{Memory, NoSuchTask, Ended, Full, Stale}
@@ -34,12 +34,15 @@ use Rattle.tb_live.specs.Moves as moves
 use Rattle.tb_live.specs.Commits.{IsClaimed, IsOffered, IsUpToDate, MayCommit, RefusesPlan, Commits, IsPrepared, entry_to_come}
 use Rattle.tb_next.specs.Plans.{IsPlanOf, IsOfProgram, IsNative, IsForeign}
 use Rattle.tb_live.specs.Entering.{IsKeptFrom, Enters, has_no_place}
-use Rattle.tb_live.specs.Preparing.{IsReadied, HasStepRoom}
+use Rattle.tb_live.specs.declared.prepared.Prepared.{Prepared}
+use Rattle.tb_live.specs.Preparing.{HasRoom, IsReadied, HasStepRoom, entry_of, held_event}
 use Rattle.tb_next.specs.Fitting.{Fits}
 use Rattle.tb_live.specs.Soundness.{IsSound, IsLawful}
 use Rattle.tb_live.specs.Working.{configuration}
+use Rattle.tb_next.proofs.FloorLemmas.{goes_on}
 use Rattle.tb_next.proofs.NativeLemmas.{native_plan, native_next}
 use Rattle.tb_next.proofs.PlanLemmas.{nothing_by, refusal_of_plan}
+use Rattle.tb_live.proofs.PreparedLemmas.{step_held}
 use Rattle.tb_live.proofs.RunLemmas.{shown, has_place}
 use Rattle.tb_live.proofs.StepLemmas.{Keeps, by_some, entered, refused, stays, no_plan}
 use Rattle.tb_live.proofs.WorkLemmas.{config_so}
@@ -138,6 +141,16 @@ module _ (P : Program) (limit : ℕ) (entries : List Entry) (before : Control) (
     going = ended_back false o.going;
     program = program_back o.program;
   }
+
+  -- a plan that may be committed is the program's for a task that goes on
+  pub may_native : MayCommit s seat p → IsNative P run p
+  may_native m =
+      let g = goes_on (is_spawned (history s) t) (list_any (ends t) (history s)) (in_the_way (history s) t (planned s.program (history s) t zero_ℤ)) (ap is_none m.may.unrefused) in
+      record {
+        spawned = spawned_back true g.0;
+        going = ended_back false g.1;
+        program = program_back m.up_to_date.program;
+      }
 
   -- a claim on a plan of the program
   pub offered : IsClaimed s seat p → IsNative P run p → IsOffered s seat p
@@ -253,6 +266,32 @@ live_commits seat P limit entries before run s shows both p claimed native place
 live_commits seat P limit entries before run s shows both p claimed native place at pushed after new (Err r) e =
     let l = stays P limit entries pushed before after run new s shows both e.0 e.1 e.2 in
     record { keeps = l.keeps; answer = (l.same, (claimed, native_refused P limit entries before run s shows both.0 seat p native r e.3)) }
+
+-- ---- a step that is prepared, without a second test
+
+pub record IsDue (limit : ℕ) (P : Program) (c : HeldCore) (entries : List Entry) (spare : ℕ) (o : Option Prepared) (p : Plan) : Type 0 where
+  pub native : IsNative P c.run p
+  pub held : held_event o ≡ Some (event_of c.run p)
+  pub readied : IsReadied limit c p entries spare (event_of c.run p)
+
+pub due : (seat : ℕ) (P : Program) (limit : ℕ) (entries : List Entry) (before : Control) (c : HeldCore) (o : Option Prepared) (spare : ℕ) (s : Session) → shown P limit entries before ≡ s
+    → IsSound P limit (reverse entries) c.run → HasRoom limit P c entries spare o → (p : Plan) → MayCommit s seat p → option_map entry_of o ≡ Some (entry_to_come seat s p) → IsDue limit P c entries spare o p
+due seat P limit entries before c o spare s shows sound room p m given =
+    let native = may_native P limit entries before c.run s shows sound seat p m in
+    let open = may_open P limit entries before c.run s shows sound seat p native m in
+    let event = event_so P limit entries before c.run s shows sound seat p native open.current in
+    let h = step_held limit P c entries spare o seat (event_of c.run p) room (given ∙ ap (λ v. Some (Stepped seat v)) (sym event)) in
+    record {
+      native = native;
+      held = h.0;
+      readied = record {
+        is_open = open;
+        event = refl;
+        reserved = h.1.reserved;
+        room = h.1.room;
+        free = h.1.free;
+      };
+    }
 
 -- what is prepared is the entry of the commit
 pub live_prepares : (seat : ℕ) (P : Program) (limit : ℕ) (entries : List Entry) (before : Control) (run : Seen) (s : Session) → shown P limit entries before ≡ s → IsSound P limit (reverse entries) run

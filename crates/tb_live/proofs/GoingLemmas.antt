@@ -16,11 +16,11 @@ use Rattle.tb_core.specs.Seen.{Seen}
 use Rattle.tb_control.specs.declared.control.Control.{Control}
 use Rattle.tb_live.specs.declared.commit_refusal.CommitRefusal.{CommitRefusal}
 use Rattle.tb_control.specs.Claims.{Claims, claim_of, with_claim, withdrawn, unless, AreLawful, IsFreeBeside}
-use Rattle.tb_live.specs.Commits.{CommitsMore, IsClaimed}
+use Rattle.tb_live.specs.Commits.{CommitsMore, IsClaimed, IsCommittedOn, entry_to_come}
 use Rattle.tb_control.specs.Controls.{behind_step}
 use Rattle.tb_live.specs.Entering.{Enters, EntersOn}
 use Rattle.tb_next.specs.Plans.{IsNative}
-use Rattle.tb_live.specs.Session.{Session}
+use Rattle.tb_live.specs.Session.{Session, with_entry, with_seat}
 use Rattle.tb_live.specs.Soundness.{IsSound, IsLawful}
 use Rattle.tb_live.proofs.CommitLemmas.{as_commit, live_commits}
 use Rattle.tb_control.proofs.ControlLemmas.{left, lawful_given, still_spawned}
@@ -110,3 +110,7 @@ live_commits_more seat P limit entries before run s shows both p claimed native 
 live_commits_more seat P limit entries before run s shows both p claimed native place at pushed after new (Err r) e =
     let l = live_commits seat P limit entries before run s shows both p claimed native place at pushed after new (Err r) e in
     record { keeps = l.keeps; answer = l.answer }
+
+-- what a commit leaves after which the seat claims the task still
+pub taken_on : (s new : Session) (seat at : ℕ) (p : Plan) → IsCommittedOn seat s p new at → new ≡ with_seat (with_entry s (entry_to_come seat s p)) seat (Some p.config.task)
+taken_on s new seat at p k = k.claims ∙ ap (λ (z : Session). with_seat z seat (Some p.config.task)) k.committed.steps.now

@@ -74,6 +74,27 @@ event_room limit P c entries spare (Some (Step whose u)) seat t v room h e =
     (ap (λ (x : Event). x.task) (sym z) ∙ h.1, subst (HasStepRoom limit P c entries spare) z room)
 event_room limit P c entries spare (Some (Roll whose i r)) seat t v room h e = absurd h
 
+-- the step whose entry is to come is what is prepared, and has capacity
+pub step_held : (limit : ℕ) (P : Program) (c : Held) (entries : List Entry) (spare : ℕ) (o : Option Prepared) (seat : ℕ) (v : Event)
+    → HasRoom limit P c entries spare o → option_map entry_of o ≡ Some (Stepped seat v) → (held_event o ≡ Some v) × HasStepRoom limit P c entries spare v
+step_held limit P c entries spare None seat v room e = absurd (nothing v e)
+  where
+    nothing : (v : Event) → ◌≡◌ {A = Option Entry} None (Some (Stepped seat v)) → ⊥
+    nothing v e = cc
+step_held limit P c entries spare (Some (Step whose u)) seat v room e =
+    let z : u ≡ v = cc in
+    (ap Some z, subst (HasStepRoom limit P c entries spare) z room)
+step_held limit P c entries spare (Some (Roll whose i r)) seat v room e = absurd (other v e)
+  where
+    other : (v : Event) → ◌≡◌ {A = Option Entry} (Some (Rolled whose i)) (Some (Stepped seat v)) → ⊥
+    other v e = cc
+
+pub held_is : (o : Option Prepared) (v u : Event) → held_event o ≡ Some v → held_event o ≡ Some u → v ≡ u
+held_is o v u e f = let z : ◌≡◌ {A = Option Event} (Some v) (Some u) = sym e ∙ f in cc
+
+pub is_held : (o : Option Prepared) (v : Event) → held_event o ≡ Some v → is_some (held_event o) ≡ true
+is_held o v e = ap is_some e
+
 -- the rollback that is prepared has its names, and a slot is free for its entry
 pub may_roll : (limit : ℕ) (P : Program) (c : Held) (entries : List Entry) (spare : ℕ) (o : Option Prepared) (seat : ℕ) (i : StepId) → HasRoom limit P c entries spare o → HoldsRoll o seat i → MayRoll spare i o
 may_roll limit P c entries spare None seat i room h = absurd h

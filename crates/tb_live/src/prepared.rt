@@ -35,6 +35,18 @@ pub fn take_step(place: &mut Option<Prepared>) -> Option<Event>
     }
 }
 
+/// The event of a step that is prepared. Nothing is prepared any longer.
+pub fn take_event(place: &mut Option<Prepared>) -> Event
+    requires { IsSome (held_event place.old) }
+    ensures event { held_event place.old ≡ Some result }
+    ensures after { place.new ≡ None }
+{
+    match take_step(place) {
+        Some(event) => event,
+        None => unreachable!(),
+    }
+}
+
 /// Whether the rollback of the step by the seat is prepared.
 pub fn holds_roll(given: &Option<Prepared>, seat: u32, step: &StepId) -> bool
     ensures { IsTrue result ↔ HoldsRoll given.now seat step.now }

@@ -7,8 +7,8 @@ use Rattle.std.specs.declared.vec.IntoIter.{IntoIter}
 use Rattle.tb_model.specs.Program.{Program}
 use Rattle.tb_plan.specs.declared.planned.Plan.{Plan}
 use Rattle.tb_live.specs.declared.commit_refusal.CommitRefusal.{CommitRefusal}
-use Rattle.tb_live.specs.Commits.{IsCommittedOn, MayCommit, entry_to_come}
-use Rattle.tb_live.specs.Session.{Session, with_entry, with_seat}
+use Rattle.tb_live.specs.Commits.{MayCommit}
+use Rattle.tb_live.specs.Session.{Session}
 use Rattle.tb_work.specs.declared.burst.Burst.{Burst}
 use Rattle.tb_work.specs.declared.refused.Refused.{Refused}
 use Rattle.tb_work.specs.Bursts.{CommitsEach, CommitsBurst, TakesEach, stepped_on}
@@ -56,10 +56,6 @@ takes_no_more seat zero [] qs p r s last each all why = (each, subst (λ (z : Se
 takes_no_more seat zero (q ∷ ps) qs p r s last each all why = absurd (omega (arith, all))
 takes_no_more seat (suc taken) [] qs p r s last each all why = absurd each
 takes_no_more seat (suc taken) (q ∷ ps) qs p r s last each all why = (each.0, takes_no_more seat taken ps qs p r (stepped_on seat s q) last each.1 (omega (arith, all)) why)
-
--- what a commit leaves after which the seat claims the task still
-pub taken_on : (s new : Session) (seat at : ℕ) (p : Plan) → IsCommittedOn seat s p new at → new ≡ with_seat (with_entry s (entry_to_come seat s p)) seat (Some p.config.task)
-taken_on s new seat at p k = k.claims ∙ ap (λ (z : Session). with_seat z seat (Some p.config.task)) k.committed.steps.now
 
 -- what the iterator of a vector has given is a front of its items
 pub taken_front : {X A : Type 0} (s : IntoIter X A) (xs : List X) (t : IntoIter X A) → Yields into_iter_steps s xs t → into_iter_items s ≡ xs ++ into_iter_items t

@@ -28,7 +28,7 @@ use crate::refused::Refused;
 use crate::running::run_is_sound;
 use crate::seat::Seat;
 use crate::stopping::why_of;
-use crate::taking::{next_place, ready_undo, take_back, take_back_all, take_more, take_step};
+use crate::taking::{next_place, ready_undo, take_back, take_back_all, take_step};
 use crate::team::Team;
 use crate::told::Told;
 use crate::unmade::Unmade;
@@ -211,7 +211,7 @@ impl<N: Team> Desk<N> {
                 });
             }
         }
-        Ok(take_more(live, seat.number(), plan))
+        Ok(live.commit_prepared(seat.number(), plan))
     }
 
     /// Prepares, writes the entry to the slot's cell, and takes the step back with all that need

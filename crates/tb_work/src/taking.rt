@@ -4,7 +4,7 @@ ghost use Rattle.std.specs.Prelude.{◌≡◌, ◌<◌, ◌^◌, Some, Err, IfOk
 ghost use Rattle.tb_model.specs.declared.entry.Entry.TheVariants.{Rolled};
 ghost use Rattle.tb_live.specs.Commits.{MayCommit, entry_to_come};
 ghost use Rattle.tb_live.specs.Moves.{IsRollPrepared, KeepsAll, MayUndo, RollsFor, UndoesFor, UndoneFor};
-ghost use Rattle.tb_live.specs.Session.{with_entry, with_seat};
+ghost use Rattle.tb_live.specs.Session.{with_entry};
 
 use tb_live::{Live, Removed, RollRefusal, UndoRefusal};
 use tb_model::{Entry, StepId};
@@ -26,21 +26,6 @@ pub fn take_step(live: &mut Live, seat: u32, plan: Plan) -> u32
     ensures session { live.new.session ≡ with_entry live.old.session (entry_to_come seat live.old.session plan) }
 {
     match live.commit(seat, plan) {
-        Ok(place) => place,
-        Err(_) => unreachable!(),
-    }
-}
-
-#[tactic(auto, using(crate::proofs::Bursting::taken_on))]
-/// Executes the step that is prepared, for a seat that goes on with the task and claims it still,
-/// and returns its entry's slot.
-pub fn take_more(live: &mut Live, seat: u32, plan: Plan) -> u32
-    requires may { MayCommit live.old.session seat plan }
-    requires prepared { live.old.prepared ≡ Some (entry_to_come seat live.old.session plan) }
-    ensures place { result ≡ length live.old.session.journal }
-    ensures session { live.new.session ≡ with_seat (with_entry live.old.session (entry_to_come seat live.old.session plan)) seat (Some plan.config.task) }
-{
-    match live.commit_more(seat, plan) {
         Ok(place) => place,
         Err(_) => unreachable!(),
     }

@@ -3,9 +3,8 @@
 use once_cell::race::Note;
 use tb_model::Entry;
 
-/// A slot, and what is known of its cell.
+/// What is known of the cell of a slot.
 #[derive(Drop)]
 pub struct Told {
-    pub place: u32,
     pub note: Note<Entry>,
 }

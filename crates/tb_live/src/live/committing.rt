@@ -1,16 +1,17 @@
 //! Plans that seats commit, and rollbacks that are prepared.
 
-ghost use Rattle.std.specs.Prelude.{◌≡◌, IfOk, IfErr, OnErr, IfSome, IfNone, IsOk, IsSome, Some};
+ghost use Rattle.std.specs.Prelude.{◌≡◌, IfOk, IfErr, OnErr, IfSome, IfNone, IsOk, IsSome, Some, length};
 ghost use Rattle.tb_model.specs.declared.entry.Entry.TheVariants.{Rolled};
 ghost use Rattle.tb_live.specs.Commits.{Commits, CommitsMore, IsPrepared, IsOffered, MayCommit, RefusesCommit, entry_to_come};
 ghost use Rattle.tb_live.specs.Moves.{IsRollPrepared, KeepsAll};
+ghost use Rattle.tb_live.specs.Session.{with_entry, with_seat};
 
 use super::Live;
 use crate::commit_refusal::CommitRefusal;
 use crate::committing::{enter_on, enter_plan};
-use crate::prepared::{Prepared, keep};
+use crate::prepared::{Prepared, keep, take_event};
 use crate::rolling::ready_roll;
-use crate::stepping::ready_step;
+use crate::stepping::{enter_readied, ready_step};
 use tb_model::{Entry, StepId};
 use tb_next::foreign;
 use tb_plan::Plan;
@@ -100,6 +101,31 @@ impl Live {
             Ok(_) => Ok(place),
             Err(refusal) => Err(CommitRefusal::Step { refusal }),
         }
+    }
+
+    /// Executes the step for which `prepare` took all memory, retains the claim, and returns the slot
+    /// of its entry. Nothing is asked again, so this is what a worker calls that prepared the step in
+    /// the same hold of a lock.
+    pub fn commit_prepared(&mut self, seat: u32, plan: Plan) -> u32
+        requires may { MayCommit self.old.session seat plan }
+        requires prepared { self.old.prepared ≡ Some (entry_to_come seat self.old.session plan) }
+        ensures place { result ≡ length self.old.session.journal }
+        ensures session { self.new.session ≡ with_seat (with_entry self.old.session (entry_to_come seat self.old.session plan)) seat (Some plan.config.task) }
+    {
+        let claim = self.control.claims.take(seat);
+        let place = self.journal.len() as u32;
+        let event = take_event(&mut self.prepared);
+        enter_readied(
+            &mut self.core,
+            &mut self.journal,
+            &mut self.control,
+            &mut self.floor,
+            seat,
+            plan,
+            event,
+        );
+        self.control.claims.set(seat, claim);
+        place
     }
 
     /// Takes all memory for a rollback of the step by the seat, and returns the entry to come. The

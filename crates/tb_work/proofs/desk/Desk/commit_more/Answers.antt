@@ -20,10 +20,10 @@ invariant_of-self-2 g c =
     (record { program = d.program; limited = d.limit; breakpoints = d.breakpoints; seated = d.seats; begins = d.begins; counted = d.counted; named = d.cells; noted = d.known })
     c.in-Ok.ensures.session refl (search rules) (search rules) e.total (search rules) (search rules) in
     let same : c.number-2.result ≡ c.number.result = search rules in
-    let claims : c.take_more.new.live.session ≡ with_seat s c.number-2.result (Some c.args.plan.config.task) =
-    c.take_more.ensures.session ∙ ap (λ (n : ℕ). with_seat (with_entry c.prepare.new.self.session (entry_to_come n c.prepare.new.self.session c.args.plan)) c.number-2.result (Some c.args.plan.config.task)) same
+    let claims : c.commit_prepared.new.self.session ≡ with_seat s c.number-2.result (Some c.args.plan.config.task) =
+    c.commit_prepared.ensures.session ∙ ap (λ (n : ℕ). with_seat (with_entry c.prepare.new.self.session (entry_to_come n c.prepare.new.self.session c.args.plan)) c.number-2.result (Some c.args.plan.config.task)) same
     ∙ ap (λ (x : Entry). with_seat (with_entry c.prepare.new.self.session x) c.number-2.result (Some c.args.plan.config.task)) (sym prepared.entry) in
-    let k = agrees_claimed g.N.Team.program g.N.Team.limit g.N.Team.breakpoints g.N.Team.seats g.N.Team.slots g.N.Team.begun s c.take_more.new.live.session _ _ _ _ _ a claims in
+    let k = agrees_claimed g.N.Team.program g.N.Team.limit g.N.Team.breakpoints g.N.Team.seats g.N.Team.slots g.N.Team.begun s c.commit_prepared.new.self.session _ _ _ _ _ a claims in
     record {
       program = k.program;
       limit = k.limited;
@@ -57,4 +57,4 @@ returns-clause-may g c =
 
 pub returns-clause-taken : goal.returns-clause-taken
 returns-clause-taken g c =
-    stepped_now c.args.self.now.live.session c.prepare.new.self.session c.take_more.new.live.session c.number-2.result c.args.seat.now.number c.args.plan c.in-Ok.ensures.session (search rules) c.take_more.ensures.session
+    stepped_now c.args.self.now.live.session c.prepare.new.self.session c.commit_prepared.new.self.session c.number-2.result c.args.seat.now.number c.args.plan c.in-Ok.ensures.session (search rules) c.commit_prepared.ensures.session
