@@ -1,7 +1,7 @@
 use Rattle.std.proofs.Common.{◌≡◌, ◌∷◌, sym, ap, ap₂, ◌∙◌, take, subst}
 use Rattle.std.proofs.lemmas.Result.{IfOk-weaker, on_ok_weaker}
 use Rattle.tb_model.specs.declared.event.Event.{Event}
-use Rattle.tb_model.specs.Legal.{Cells, Legal}
+use Rattle.tb_model.specs.Legal.{Legal}
 use Rattle.tb_steps.specs.Entries.{Entry}
 use Rattle.tb_steps.specs.Scans.{history_of}
 use Rattle.tb_steps.proofs.FirstLemmas.{legal_to, there}
