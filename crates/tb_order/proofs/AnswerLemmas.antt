@@ -1,7 +1,7 @@
 -- What is answered of the stored steps.
 use Rattle.std.proofs.Common.{◌≡◌, ◌<◌, ◌+◌, ℕ, suc, List, [], ◌∷◌, ◌++◌, cond, length, take, drop, reverse, refl, sym, ap, ap₂, ◌∙◌, Some, None, Option, get_or, slice_get, append-nil}
 use Rattle.std.specs.Option.{option_to_list}
-use Rattle.std.proofs.lemmas.List.{reverse-append}
+use Rattle.std.proofs.lemmas.List.{length-append, length-reverse, reverse-append}
 use Rattle.std.proofs.lemmas.Option.{slice_get_read}
 use Rattle.tb_model.specs.declared.event.Event.{Event}
 use Rattle.tb_model.specs.declared.step_id.StepId.{StepId}
@@ -33,21 +33,20 @@ module _ (entries : List Entry) (at : ℕ) (x : Entry) (within : at < length ent
   more : history_of (take (at + 1) entries) ≡ x.event ∷ F
   more = history_more entries at x within here
 
-  pub races_more : (o : Option Race) → ((v : Entry) → slice_get entries at ≡ Some v → o ≡ race_of F v.event) → (found : List Race) → found ≡ reverse (races F)
-      → found ++ option_to_list o ≡ reverse (races (history_of (take (at + 1) entries)))
-  races_more o h found so_far =
-      ap₂ (λ f p. f ++ option_to_list p) so_far (h x read)
-      ∙ sym (reverse_more (race_of F x.event) (races F))
-      ∙ ap (λ K. reverse (races K)) (sym more)
+  pub races_more : (o : Option Race) → ((v : Entry) → slice_get entries at ≡ Some v → o ≡ race_of F v.event)
+      → reverse (races (history_of (take (at + 1) entries))) ≡ reverse (races F) ++ option_to_list o
+  races_more o h =
+      ap (λ K. reverse (races K)) more
+      ∙ reverse_more (race_of F x.event) (races F)
+      ∙ ap (λ p. reverse (races F) ++ option_to_list p) (sym (h x read))
 
 -- the stored step that is read there is that one
 pub read_there : (entries : List Entry) (at : ℕ) (x v : Entry) → at < length entries → x ≡ get_or entries at x → slice_get entries at ≡ Some v → x ≡ v
 read_there entries at x v within here is = some_same x v (sym (slice_get_read entries (length entries) at x refl within here) ∙ is)
 
--- what isn't there is nothing
-pub nothing : {A : Type 0} (o : Option A) → ((x : A) → o ≡ Some x → ⊥) → o ≡ None
-nothing (Some x) h = absurd (h x refl)
-nothing None h = refl
+-- as many more as there are
+pub counted_more : {A : Type 0} (more old : List A) (o : Option A) → reverse more ≡ reverse old ++ option_to_list o → length more ≡ length old + length (option_to_list o)
+counted_more more old o h = sym (length-reverse more) ∙ ap length h ∙ length-append (reverse old) (option_to_list o) ∙ ap (λ n. n + length (option_to_list o)) (length-reverse old)
 
 immediate_here : (v : Event) (later front : History) → immediate_of (step_of front v) (later ++ v ∷ front) ≡ immediate front v front
 immediate_here v [] front = ap (λ b. cond b (immediate front v front) (immediate_of (step_of front v) front)) (its_step front v)

@@ -5,3 +5,4 @@ pub mod Needed
 pub mod Pending
 pub mod Told
 pub mod Walked
+pub mod Walks

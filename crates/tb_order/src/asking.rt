@@ -7,9 +7,9 @@ ghost use Rattle.tb_races.specs.Immediate.{immediate_of};
 ghost use Rattle.tb_races.specs.Racing;
 ghost use Rattle.tb_order.specs.Edges;
 
+use crate::all_edges::edges_among;
 use crate::edge::Edge;
 use crate::immediate::immediate;
-use crate::immediate_all::edges_among;
 use crate::racing::races_among;
 use std::alloc::{AllocError, Global};
 use tb_cause::{CauseRefusal, place_among};

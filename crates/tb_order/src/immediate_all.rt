@@ -1,4 +1,4 @@
-//! The immediate needs of all steps.
+//! What a step needs immediately, after those in front of it.
 
 ghost use Rattle.std.specs.Prelude.{◌≡◌, ◌<◌, ◌≤◌, ◌+◌, ◌++◌, ℕ, List, IfOk, IfSome, OnOk, IsTrue, Some, is_some, get_or, length, map, reverse, take};
 ghost use Rattle.tb_steps.specs.Entries.{Entry};
@@ -8,7 +8,6 @@ ghost use Rattle.tb_lanes.specs.declared.tasks.Tasks.{Tasks as ATasks};
 ghost use Rattle.tb_order.specs.AllNeeds.{AreDirect, AreNeeds, GoesBehind, IsMade};
 ghost use Rattle.tb_lanes.specs.Clocks as is;
 ghost use Rattle.tb_lanes.specs.Clocks.{AreOrdinals, AreTasks, IsShaped, lanes_of};
-ghost use Rattle.tb_order.specs.Edges;
 ghost use Rattle.tb_order.specs.Edges.{as_edge};
 ghost use Rattle.tb_lanes.specs.Needing.{place_at};
 ghost use Rattle.tb_order.specs.Told.{told};
@@ -17,8 +16,7 @@ use crate::edge::Edge;
 use crate::merging::{add, advance, begin, lane_behind, no_clocks, nothing_past};
 use crate::needing::{candidates, needed_among, untold};
 use crate::needs::Needs;
-use crate::numbering::tasks_of;
-use crate::ordinals::{named, ordinals_of};
+use crate::ordinals::named;
 use crate::pending::{no_lanes, note_lane, pruned_row};
 use crate::sharing::note_shared;
 use crate::waiting::kind_at;
@@ -28,28 +26,8 @@ use tb_lanes::{Clocks, LaneBound, Step, Tasks, nothing};
 use tb_model::StepId;
 use tb_races::Cause;
 
-/// The immediate needs of each of these steps, in the order of the history.
-pub fn edges_among(alloc: Global, entries: &History<'_>) -> Result<Vec<Edge>, AllocError>
-    requires legal { AreLegal entries.now }
-    requires bound { length entries.now ≤ 1000000 }
-    ensures { IfOk result (λ edges. edges.items ≡ reverse (Edges.edges (history_of entries.now))) }
-{
-    let tasks = tasks_of(alloc, entries)?;
-    let ordinals = ordinals_of(alloc, entries, &tasks)?;
-    let mut edges = Vec::new(alloc);
-    let mut needs = no_needs(alloc, &tasks)?;
-    for at in 0..entries.len() {
-        let mut places = take_step(&mut needs, entries, &tasks, at)?;
-        places.reverse();
-        let causes = causes_of(alloc, entries, &tasks, &ordinals, at, &places)?;
-        let later = named(entries, &ordinals, at)?;
-        append_edges(&mut edges, &later, &causes)?;
-    }
-    Ok(edges)
-}
-
 /// Nothing is known of any step yet.
-fn no_needs(alloc: Global, tasks: &Tasks) -> Result<Needs, AllocError>
+pub fn no_needs(alloc: Global, tasks: &Tasks) -> Result<Needs, AllocError>
     requires shaped { IsShaped tasks.now }
     ensures { IfOk result (λ needs. (entries : List Entry) → AreTasks entries tasks.now
         → AreNeeds entries tasks.now 0 needs) }
@@ -65,7 +43,7 @@ fn no_needs(alloc: Global, tasks: &Tasks) -> Result<Needs, AllocError>
 }
 
 /// Adds the step at this index, and returns those that it needs immediately, the newest first.
-fn take_step(
+pub fn take_step(
     needs: &mut Needs,
     entries: &History<'_>,
     tasks: &Tasks,
@@ -131,7 +109,7 @@ fn row_of(
 }
 
 /// The steps at these indexes, as what the step at the other needs immediately.
-fn causes_of(
+pub fn causes_of(
     alloc: Global,
     entries: &History<'_>,
     tasks: &Tasks,
@@ -160,10 +138,11 @@ fn causes_of(
     Ok(causes)
 }
 
-/// Appends these immediate needs of the later step.
-fn append_edges(edges: &mut Vec<Edge>, later: &StepId, causes: &[Cause]) -> Result<(), AllocError>
-    ensures { OnOk result (edges.new.items ≡ edges.old.items ++ map (as_edge later.now) causes.now) }
+/// These immediate needs of the later step.
+pub fn edges_of(alloc: Global, later: &StepId, causes: &[Cause]) -> Result<Vec<Edge>, AllocError>
+    ensures { IfOk result (λ edges. edges.items ≡ map (as_edge later.now) causes.now) }
 {
+    let mut edges = Vec::new(alloc);
     for cause in causes {
         edges.push(Edge {
             earlier: cause.step.clone()?,
@@ -171,5 +150,5 @@ fn append_edges(edges: &mut Vec<Edge>, later: &StepId, causes: &[Cause]) -> Resu
             kind: cause.kind,
         })?;
     }
-    Ok(())
+    Ok(edges)
 }

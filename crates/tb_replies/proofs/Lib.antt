@@ -8,5 +8,8 @@ pub mod RolledLemmas
 pub mod BodyLemmas
 pub mod TeamLemmas
 pub mod ToldLemmas
+pub mod PieceLemmas
 pub mod HistoryLemmas
+pub mod RaceLemmas
+pub mod EdgeLemmas
 pub mod AnswerLemmas

@@ -1,4 +1,4 @@
-use Rattle.std.proofs.Common.{length, ap, ◌∙◌, sym, arith}
+use Rattle.std.proofs.Common.{◌∙◌, sym, arith}
 use Rattle.tb_races.specs.Orders.{AllNeeds}
 use Rattle.tb_lanes.specs.Clocks.{lane, lanes_of}
 use Rattle.tb_order.proofs.ClockMoreLemmas.{no_fewer}

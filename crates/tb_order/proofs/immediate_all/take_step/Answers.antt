@@ -1,4 +1,4 @@
-use Rattle.std.proofs.Common.{◌≡◌, ◌<◌, ◌≤◌, ◌+◌, ◌++◌, ℕ, Some, filter, length, not, sym, ap, ap₂, ◌∙◌, subst, arith, true, Vec, Global}
+use Rattle.std.proofs.Common.{◌≡◌, ◌<◌, ◌≤◌, ◌+◌, ◌++◌, ℕ, Some, filter, length, not, sym, ap, ◌∙◌, subst, arith, true, Vec, Global}
 use Rattle.tb_races.specs.Orders.{AllNeeds, WithExclusion}
 use Rattle.tb_order.specs.AllNeeds.{AreDirect}
 use Rattle.tb_lanes.specs.Clocks.{IsOneMore, lane, lanes_of}
