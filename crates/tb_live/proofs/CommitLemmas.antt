@@ -278,14 +278,14 @@ pub due : (seat : ℕ) (P : Program) (limit : ℕ) (entries : List Entry) (befor
     → IsSound P limit (reverse entries) c.run → HasRoom limit P c entries spare o → (p : Plan) → MayCommit s seat p → option_map entry_of o ≡ Some (entry_to_come seat s p) → IsDue limit P c entries spare o p
 due seat P limit entries before c o spare s shows sound room p m given =
     let native = may_native P limit entries before c.run s shows sound seat p m in
-    let open = may_open P limit entries before c.run s shows sound seat p native m in
-    let event = event_so P limit entries before c.run s shows sound seat p native open.current in
+    let is_open = may_open P limit entries before c.run s shows sound seat p native m in
+    let event = event_so P limit entries before c.run s shows sound seat p native is_open.current in
     let h = step_held limit P c entries spare o seat (event_of c.run p) room (given ∙ ap (λ v. Some (Stepped seat v)) (sym event)) in
     record {
       native = native;
       held = h.0;
       readied = record {
-        is_open = open;
+        is_open = is_open;
         event = refl;
         reserved = h.1.reserved;
         room = h.1.room;

@@ -13,17 +13,20 @@ use Rattle.tb_plan.specs.declared.planned.Plan.{Plan}
 use Rattle.tb_core.specs.declared.step_refusal.StepRefusal.{StepRefusal}
 use Rattle.tb_core.specs.Outcomes.{event_of}
 use Rattle.tb_core.specs.Seen.{Seen}
+use Rattle.tb_core.specs.Seen as core
 use Rattle.tb_control.specs.declared.control.Control.{Control}
 use Rattle.tb_live.specs.declared.commit_refusal.CommitRefusal.{CommitRefusal}
 use Rattle.tb_control.specs.Claims.{Claims, claim_of, with_claim, withdrawn, unless, AreLawful, IsFreeBeside}
-use Rattle.tb_live.specs.Commits.{CommitsMore, IsClaimed, IsCommittedOn, entry_to_come}
+use Rattle.tb_live.specs.Commits.{CommitsMore, IsClaimed, IsCommittedOn, MayCommit, entry_to_come}
 use Rattle.tb_control.specs.Controls.{behind_step}
 use Rattle.tb_live.specs.Entering.{Enters, EntersOn}
+use Rattle.tb_next.specs.Floor.{IsCarried, IsFloor}
 use Rattle.tb_next.specs.Plans.{IsNative}
 use Rattle.tb_live.specs.Session.{Session, with_entry, with_seat}
 use Rattle.tb_live.specs.Soundness.{IsSound, IsLawful}
 use Rattle.tb_live.proofs.CommitLemmas.{as_commit, live_commits}
 use Rattle.tb_control.proofs.ControlLemmas.{left, lawful_given, still_spawned}
+use Rattle.tb_live.proofs.FloorAfterLemmas.{floor_committed}
 use Rattle.tb_live.proofs.RunLemmas.{shown}
 use Rattle.tb_live.proofs.StepLemmas.{Keeps}
 use Rattle.tb_live.proofs.WorkLemmas.{with_claims}
@@ -114,3 +117,30 @@ live_commits_more seat P limit entries before run s shows both p claimed native 
 -- what a commit leaves after which the seat claims the task still
 pub taken_on : (s new : Session) (seat at : ℕ) (p : Plan) → IsCommittedOn seat s p new at → new ≡ with_seat (with_entry s (entry_to_come seat s p)) seat (Some p.config.task)
 taken_on s new seat at p k = k.claims ∙ ap (λ (z : Session). with_seat z seat (Some p.config.task)) k.committed.steps.now
+
+-- ---- a prepared step, after which the claim that was set aside is given back
+
+pub record GoesOn (seat : ℕ) (P : Program) (limit : ℕ) (s : Session) (p : Plan) (pushed : List Entry) (after : Control) (new : Seen) (at : ℕ) (now : Option Name) : Type 0 where
+  pub keeps : Keeps P limit pushed after new
+  pub place : at ≡ length s.journal
+  pub session : shown P limit pushed after ≡ with_seat (with_entry s (entry_to_come seat s p)) seat (Some p.config.task)
+  pub floor : IsFloor P (core.history new) now
+
+module _ (seat : ℕ) (P : Program) (limit : ℕ) (entries : List Entry) (before : Control) (run : Seen) (s : Session) (shows : shown P limit entries before ≡ s) (both : IsSound P limit (reverse entries) run × IsLawful (reverse entries) before)
+    (p : Plan) (m : MayCommit s seat p) (native : IsNative P run p) where
+  pub claimed_here : claim_of before.claims seat ≡ Some p.config.task
+  claimed_here = ap (λ (z : Session). claim_of z.control.claims seat) shows ∙ m.claimed.claims
+
+  pub goes_on : (pushed : List Entry) (left : Claims) (mid : Control) (new : Seen) (i : StepId) (o : Option Name) (given : Claims) (at : ℕ) (old now : Option Name) → o ≡ claim_of before.claims seat → left ≡ with_claim before.claims seat None
+      → Enters limit seat run p new entries pushed (with_claims before left) mid (Ok i) → given ≡ with_claim mid.claims seat o → at ≡ length entries → IsCarried (core.history new) old now → IsFloor P (core.history run) old
+      → GoesOn seat P limit s p pushed (with_claims mid given) new at now
+  goes_on pushed left mid new i o given at old now taken aside entered back is carried floor =
+      let on = entered_on limit seat run p new entries pushed before mid (with_claims mid given) left o (Ok i) claimed_here taken aside entered (ap (with_claims mid) back) in
+      let l = live_commits_more seat P limit entries before run s shows both p m.claimed native at is pushed (with_claims mid given) new (Ok i) on in
+      let ended = as_ended limit seat run p new entries pushed before (with_claims mid given) (Ok i) on in
+      record {
+        keeps = l.keeps;
+        place = l.answer.committed.place;
+        session = taken_on s (shown P limit pushed (with_claims mid given)) seat at p l.answer;
+        floor = floor_committed limit seat P run new p entries pushed before ended.0 (Ok i) both.0.fits native ended.1 old now carried tt floor;
+      }

@@ -51,7 +51,7 @@ pub fn write(
         return Err(Unmade::CellTaken);
     };
     let again = note.again();
-    told.push_reserved(Told { note: again });
+    told.push_reserved(Told { place, note: again });
     Ok(note)
 }
 

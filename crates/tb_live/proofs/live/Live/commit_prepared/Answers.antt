@@ -1,20 +1,19 @@
-use Rattle.std.proofs.Common.{◌≡◌, ap, sym, ◌∙◌, Some}
+use Rattle.std.proofs.Common.{ap, sym, ◌∙◌, Some}
 use Rattle.std.specs.Prelude.{Ok}
 use Rattle.tb_model.specs.declared.event.Event.{Event}
 use Rattle.tb_core.specs.Outcomes.{event_of}
 use Rattle.tb_control.specs.Controls.{behind_step}
-use Rattle.tb_control.specs.Claims.{claim_of}
+use Rattle.tb_live.specs.Entering.{Enters}
 use Rattle.tb_live.specs.Session.{Held}
 use Rattle.tb_next.proofs.NativeLemmas.{native_fits}
 use Rattle.tb_live.proofs.CommitLemmas.{due}
-use Rattle.tb_live.proofs.FloorAfterLemmas.{floor_committed}
-use Rattle.tb_live.proofs.GoingLemmas.{as_ended, claimed_within, entered_on, live_commits_more, still_within, taken_on}
+use Rattle.tb_live.proofs.GoingLemmas.{claimed_here, claimed_within, goes_on, still_within}
 use Rattle.tb_live.proofs.PreparedLemmas.{held_is, is_held, no_room}
 use Rattle.tb_live.proofs.WorkLemmas.{with_claims}
 use Rattle.tb_live.proofs.live.Live.commit_prepared.Goals as goal
 
-pub take_event-requires : goal.take_event-requires
-take_event-requires c =
+pub take_event-event-requires : goal.take_event-event-requires
+take_event-event-requires c =
     let i = c.self.inside in
     let d = due c.args.seat i.program i.limit i.journal.items i.control i.core i.prepared i.journal.room c.args.self.now.session (ap (λ (h : Held). h.session) c.self.view_is) c.self.invariant.0 c.self.invariant.2
     c.args.plan c.requires.may (ap (λ (h : Held). h.prepared) c.self.view_is ∙ c.requires.prepared) in
@@ -58,39 +57,38 @@ enter_readied-requires-clause-spare c =
 pub take-claim-requires : goal.take-claim-requires
 take-claim-requires c =
     let i = c.self.inside in
-    claimed_within i.control.claims c.args.seat c.args.plan.config.task (ap (λ (h : Held). claim_of h.session.control.claims c.args.seat) c.self.view_is ∙ c.requires.may.claimed.claims)
+    let d = due c.args.seat i.program i.limit i.journal.items i.control i.core i.prepared i.journal.room c.args.self.now.session (ap (λ (h : Held). h.session) c.self.view_is) c.self.invariant.0 c.self.invariant.2
+    c.args.plan c.requires.may (ap (λ (h : Held). h.prepared) c.self.view_is ∙ c.requires.prepared) in
+    claimed_within i.control.claims c.args.seat c.args.plan.config.task
+    (claimed_here c.args.seat i.program i.limit i.journal.items i.control i.core.run c.args.self.now.session (ap (λ (h : Held). h.session) c.self.view_is) (c.self.invariant.0, c.self.invariant.1) c.args.plan c.requires.may d.native)
 
 pub set-requires : goal.set-requires
 set-requires c =
     let i = c.self.inside in
     let d = due c.args.seat i.program i.limit i.journal.items i.control i.core i.prepared i.journal.room c.args.self.now.session (ap (λ (h : Held). h.session) c.self.view_is) c.self.invariant.0 c.self.invariant.2
     c.args.plan c.requires.may (ap (λ (h : Held). h.prepared) c.self.view_is ∙ c.requires.prepared) in
-    let claim = ap (λ (h : Held). claim_of h.session.control.claims c.args.seat) c.self.view_is ∙ c.requires.may.claimed.claims in
-    let aside = with_claims i.control c.take-claim.new.self in
     let e = held_is i.prepared c.take_event-event.result (event_of i.core.run c.args.plan) c.take_event-event.ensures.event d.held in
-    let entered = (c.enter_readied.ensures.entered, d.readied.room, c.enter_readied.ensures.control ∙ ap (λ v. behind_step c.args.plan.config.at v aside) e) in
+    let entered : Enters i.limit c.args.seat i.core.run c.args.plan c.enter_readied.new.core.run i.journal.items c.enter_readied.new.journal.items (with_claims i.control c.take-claim.new.self) c.enter_readied.new.control (Ok c.enter_readied.result) =
+    (c.enter_readied.ensures.entered, d.readied.room, c.enter_readied.ensures.control ∙ ap (λ v. behind_step c.args.plan.config.at v (with_claims i.control c.take-claim.new.self)) e) in
     still_within i.limit c.args.seat i.core.run c.args.plan c.enter_readied.new.core.run i.journal.items c.enter_readied.new.journal.items i.control c.enter_readied.new.control c.take-claim.new.self (Ok c.enter_readied.result)
-    (claimed_within i.control.claims c.args.seat c.args.plan.config.task claim) c.take-claim.ensures.after entered
+    (claimed_within i.control.claims c.args.seat c.args.plan.config.task
+    (claimed_here c.args.seat i.program i.limit i.journal.items i.control i.core.run c.args.self.now.session (ap (λ (h : Held). h.session) c.self.view_is) (c.self.invariant.0, c.self.invariant.1) c.args.plan c.requires.may d.native)) c.take-claim.ensures.after entered
 
 pub invariant_of-self : goal.invariant_of-self
 invariant_of-self c =
     let i = c.self.inside in
     let d = due c.args.seat i.program i.limit i.journal.items i.control i.core i.prepared i.journal.room c.args.self.now.session (ap (λ (h : Held). h.session) c.self.view_is) c.self.invariant.0 c.self.invariant.2
     c.args.plan c.requires.may (ap (λ (h : Held). h.prepared) c.self.view_is ∙ c.requires.prepared) in
-    let claim = ap (λ (h : Held). claim_of h.session.control.claims c.args.seat) c.self.view_is ∙ c.requires.may.claimed.claims in
-    let aside = with_claims i.control c.take-claim.new.self in
     let e = held_is i.prepared c.take_event-event.result (event_of i.core.run c.args.plan) c.take_event-event.ensures.event d.held in
-    let entered = (c.enter_readied.ensures.entered, d.readied.room, c.enter_readied.ensures.control ∙ ap (λ v. behind_step c.args.plan.config.at v aside) e) in
-    let on = entered_on i.limit c.args.seat i.core.run c.args.plan c.enter_readied.new.core.run i.journal.items c.enter_readied.new.journal.items i.control c.enter_readied.new.control (with_claims c.enter_readied.new.control c.set.new.self)
-    c.take-claim.new.self c.take-claim.result (Ok c.enter_readied.result) claim c.take-claim.ensures.claim c.take-claim.ensures.after entered (ap (with_claims c.enter_readied.new.control) c.set.ensures) in
-    let l = live_commits_more c.args.seat i.program i.limit i.journal.items i.control i.core.run c.args.self.now.session (ap (λ (h : Held). h.session) c.self.view_is) (c.self.invariant.0, c.self.invariant.1) c.args.plan c.requires.may.claimed d.native
-    c.len-place.result c.len-place.ensures c.enter_readied.new.journal.items (with_claims c.enter_readied.new.control c.set.new.self) c.enter_readied.new.core.run (Ok c.enter_readied.result) on in
-    let ended = as_ended i.limit c.args.seat i.core.run c.args.plan c.enter_readied.new.core.run i.journal.items c.enter_readied.new.journal.items i.control (with_claims c.enter_readied.new.control c.set.new.self) (Ok c.enter_readied.result) on in (
-      l.keeps.sound,
-      l.keeps.lawful,
+    let entered : Enters i.limit c.args.seat i.core.run c.args.plan c.enter_readied.new.core.run i.journal.items c.enter_readied.new.journal.items (with_claims i.control c.take-claim.new.self) c.enter_readied.new.control (Ok c.enter_readied.result) =
+    (c.enter_readied.ensures.entered, d.readied.room, c.enter_readied.ensures.control ∙ ap (λ v. behind_step c.args.plan.config.at v (with_claims i.control c.take-claim.new.self)) e) in
+    let on = goes_on c.args.seat i.program i.limit i.journal.items i.control i.core.run c.args.self.now.session (ap (λ (h : Held). h.session) c.self.view_is) (c.self.invariant.0, c.self.invariant.1) c.args.plan c.requires.may d.native
+    c.enter_readied.new.journal.items c.take-claim.new.self c.enter_readied.new.control c.enter_readied.new.core.run c.enter_readied.result c.take-claim.result c.set.new.self c.len-place.result i.floor c.enter_readied.new.floor
+    c.take-claim.ensures.claim c.take-claim.ensures.after entered c.set.ensures c.len-place.ensures c.enter_readied.ensures.floor c.self.invariant.3 in (
+      on.keeps.sound,
+      on.keeps.lawful,
       no_room i.limit i.program c.enter_readied.new.core c.enter_readied.new.journal.items c.enter_readied.new.journal.room c.take_event-event.new.place c.take_event-event.ensures.after,
-      floor_committed i.limit c.args.seat i.program i.core.run c.enter_readied.new.core.run c.args.plan i.journal.items c.enter_readied.new.journal.items i.control ended.0 (Ok c.enter_readied.result) c.self.invariant.0.fits d.native
-          ended.1 i.floor c.enter_readied.new.floor c.enter_readied.ensures.floor tt c.self.invariant.3,
+      on.floor,
     )
 
 pub returns-clause-place : goal.returns-clause-place
@@ -98,27 +96,23 @@ returns-clause-place c =
     let i = c.self.inside in
     let d = due c.args.seat i.program i.limit i.journal.items i.control i.core i.prepared i.journal.room c.args.self.now.session (ap (λ (h : Held). h.session) c.self.view_is) c.self.invariant.0 c.self.invariant.2
     c.args.plan c.requires.may (ap (λ (h : Held). h.prepared) c.self.view_is ∙ c.requires.prepared) in
-    let claim = ap (λ (h : Held). claim_of h.session.control.claims c.args.seat) c.self.view_is ∙ c.requires.may.claimed.claims in
-    let aside = with_claims i.control c.take-claim.new.self in
     let e = held_is i.prepared c.take_event-event.result (event_of i.core.run c.args.plan) c.take_event-event.ensures.event d.held in
-    let entered = (c.enter_readied.ensures.entered, d.readied.room, c.enter_readied.ensures.control ∙ ap (λ v. behind_step c.args.plan.config.at v aside) e) in
-    let on = entered_on i.limit c.args.seat i.core.run c.args.plan c.enter_readied.new.core.run i.journal.items c.enter_readied.new.journal.items i.control c.enter_readied.new.control (with_claims c.enter_readied.new.control c.set.new.self)
-    c.take-claim.new.self c.take-claim.result (Ok c.enter_readied.result) claim c.take-claim.ensures.claim c.take-claim.ensures.after entered (ap (with_claims c.enter_readied.new.control) c.set.ensures) in
-    let l = live_commits_more c.args.seat i.program i.limit i.journal.items i.control i.core.run c.args.self.now.session (ap (λ (h : Held). h.session) c.self.view_is) (c.self.invariant.0, c.self.invariant.1) c.args.plan c.requires.may.claimed d.native
-    c.len-place.result c.len-place.ensures c.enter_readied.new.journal.items (with_claims c.enter_readied.new.control c.set.new.self) c.enter_readied.new.core.run (Ok c.enter_readied.result) on in
-    l.answer.committed.place
+    let entered : Enters i.limit c.args.seat i.core.run c.args.plan c.enter_readied.new.core.run i.journal.items c.enter_readied.new.journal.items (with_claims i.control c.take-claim.new.self) c.enter_readied.new.control (Ok c.enter_readied.result) =
+    (c.enter_readied.ensures.entered, d.readied.room, c.enter_readied.ensures.control ∙ ap (λ v. behind_step c.args.plan.config.at v (with_claims i.control c.take-claim.new.self)) e) in
+    let on = goes_on c.args.seat i.program i.limit i.journal.items i.control i.core.run c.args.self.now.session (ap (λ (h : Held). h.session) c.self.view_is) (c.self.invariant.0, c.self.invariant.1) c.args.plan c.requires.may d.native
+    c.enter_readied.new.journal.items c.take-claim.new.self c.enter_readied.new.control c.enter_readied.new.core.run c.enter_readied.result c.take-claim.result c.set.new.self c.len-place.result i.floor c.enter_readied.new.floor
+    c.take-claim.ensures.claim c.take-claim.ensures.after entered c.set.ensures c.len-place.ensures c.enter_readied.ensures.floor c.self.invariant.3 in
+    on.place
 
 pub returns-clause-session : goal.returns-clause-session
 returns-clause-session c =
     let i = c.self.inside in
     let d = due c.args.seat i.program i.limit i.journal.items i.control i.core i.prepared i.journal.room c.args.self.now.session (ap (λ (h : Held). h.session) c.self.view_is) c.self.invariant.0 c.self.invariant.2
     c.args.plan c.requires.may (ap (λ (h : Held). h.prepared) c.self.view_is ∙ c.requires.prepared) in
-    let claim = ap (λ (h : Held). claim_of h.session.control.claims c.args.seat) c.self.view_is ∙ c.requires.may.claimed.claims in
-    let aside = with_claims i.control c.take-claim.new.self in
     let e = held_is i.prepared c.take_event-event.result (event_of i.core.run c.args.plan) c.take_event-event.ensures.event d.held in
-    let entered = (c.enter_readied.ensures.entered, d.readied.room, c.enter_readied.ensures.control ∙ ap (λ v. behind_step c.args.plan.config.at v aside) e) in
-    let on = entered_on i.limit c.args.seat i.core.run c.args.plan c.enter_readied.new.core.run i.journal.items c.enter_readied.new.journal.items i.control c.enter_readied.new.control (with_claims c.enter_readied.new.control c.set.new.self)
-    c.take-claim.new.self c.take-claim.result (Ok c.enter_readied.result) claim c.take-claim.ensures.claim c.take-claim.ensures.after entered (ap (with_claims c.enter_readied.new.control) c.set.ensures) in
-    let l = live_commits_more c.args.seat i.program i.limit i.journal.items i.control i.core.run c.args.self.now.session (ap (λ (h : Held). h.session) c.self.view_is) (c.self.invariant.0, c.self.invariant.1) c.args.plan c.requires.may.claimed d.native
-    c.len-place.result c.len-place.ensures c.enter_readied.new.journal.items (with_claims c.enter_readied.new.control c.set.new.self) c.enter_readied.new.core.run (Ok c.enter_readied.result) on in
-    taken_on c.args.self.now.session _ c.args.seat c.len-place.result c.args.plan l.answer
+    let entered : Enters i.limit c.args.seat i.core.run c.args.plan c.enter_readied.new.core.run i.journal.items c.enter_readied.new.journal.items (with_claims i.control c.take-claim.new.self) c.enter_readied.new.control (Ok c.enter_readied.result) =
+    (c.enter_readied.ensures.entered, d.readied.room, c.enter_readied.ensures.control ∙ ap (λ v. behind_step c.args.plan.config.at v (with_claims i.control c.take-claim.new.self)) e) in
+    let on = goes_on c.args.seat i.program i.limit i.journal.items i.control i.core.run c.args.self.now.session (ap (λ (h : Held). h.session) c.self.view_is) (c.self.invariant.0, c.self.invariant.1) c.args.plan c.requires.may d.native
+    c.enter_readied.new.journal.items c.take-claim.new.self c.enter_readied.new.control c.enter_readied.new.core.run c.enter_readied.result c.take-claim.result c.set.new.self c.len-place.result i.floor c.enter_readied.new.floor
+    c.take-claim.ensures.claim c.take-claim.ensures.after entered c.set.ensures c.len-place.ensures c.enter_readied.ensures.floor c.self.invariant.3 in
+    on.session
