@@ -49,7 +49,8 @@ impl Ids {
     /// Whether this is the task with the id.
     #[inline(always)]
     fn is_of(&self, id: usize, name: &TaskName) -> bool
-        ensures { IsTrue result → (cells : Cells) (H : History) → AreIds cells H self.now → HasId H id name.now }
+        ensures { IsTrue result → (cells : Cells) (H : History) → AreIds cells H self.now
+            → HasId H id name.now }
     {
         match self.names.get_index(id) {
             Some(other) => *other == *name,

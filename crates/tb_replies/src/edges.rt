@@ -20,7 +20,7 @@ use tb_order::{EdgeWalk, count_edges};
 use tb_view::{append_edges, edges_head};
 
 /// Appends the lines of each step's immediate needs, and writes what waits where it is much.
-fn tell_edges<K: Sink>(
+fn write_edges<K: Sink>(
     alloc: Global,
     sink: &mut K,
     text: &mut Draft,
@@ -34,7 +34,8 @@ fn tell_edges<K: Sink>(
     ensures err { OnErr result (WroteFront (K.taken sink.old) (K.taken sink.new)
         (text.old ++ edge_lines (reverse (Edges.edges (history_of entries.now))))) }
     ensures ok { OnOk result (K.failures sink.new ≡ K.failures sink.old) }
-    ensures failed { IfErr result (λ why. K.failures sink.new ≡ K.failures sink.old + failed_at why) }
+    ensures failed { IfErr result (λ why.
+        K.failures sink.new ≡ K.failures sink.old + failed_at why) }
 {
     let mut walk = EdgeWalk::new(alloc, entries)?;
     'steps: for at in 0..entries.len() {
@@ -46,7 +47,7 @@ fn tell_edges<K: Sink>(
 }
 
 /// How many immediate needs all steps have, and the line of each, which takes no memory of their
-/// number. They are looked for twice, since their number comes first. What is handed out is the end
+/// count. They are looked for twice, since the count comes first. What is handed out is the end
 /// of the reply, and still to be written.
 pub fn edges_reply<K: Sink>(alloc: Global, sink: &mut K, live: &Live) -> Result<Draft, Unwritten>
     requires failures { K.failures sink.old < 2 ^ 64 - 1 }
@@ -55,11 +56,12 @@ pub fn edges_reply<K: Sink>(alloc: Global, sink: &mut K, live: &Live) -> Result<
     ensures err { OnErr result (Begins (Reply live.now.session (command.Show view.Edges))
         (K.taken sink.old) (K.taken sink.new)) }
     ensures ok { OnOk result (K.failures sink.new ≡ K.failures sink.old) }
-    ensures failed { IfErr result (λ why. K.failures sink.new ≡ K.failures sink.old + failed_at why) }
+    ensures failed { IfErr result (λ why.
+        K.failures sink.new ≡ K.failures sink.old + failed_at why) }
 {
     let entries = live.core().legal_entries();
     let count = count_edges(alloc, &entries)?;
     let mut text = edges_head(alloc, count)?;
-    tell_edges(alloc, sink, &mut text, &entries)?;
+    write_edges(alloc, sink, &mut text, &entries)?;
     Ok(text)
 }

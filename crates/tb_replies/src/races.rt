@@ -32,7 +32,7 @@ fn append_race(text: &mut Draft, race: Option<Race>) -> Result<(), AllocError>
 }
 
 /// Appends the line of each step's race, and writes what waits where it is much.
-fn tell_races<K: Sink>(
+fn write_races<K: Sink>(
     alloc: Global,
     sink: &mut K,
     text: &mut Draft,
@@ -45,7 +45,8 @@ fn tell_races<K: Sink>(
     ensures err { OnErr result (WroteFront (K.taken sink.old) (K.taken sink.new)
         (text.old ++ race_lines (reverse (Racing.races (history_of entries.now))))) }
     ensures ok { OnOk result (K.failures sink.new ≡ K.failures sink.old) }
-    ensures failed { IfErr result (λ why. K.failures sink.new ≡ K.failures sink.old + failed_at why) }
+    ensures failed { IfErr result (λ why.
+        K.failures sink.new ≡ K.failures sink.old + failed_at why) }
 {
     let mut walk = RaceWalk::new(alloc)?;
     'steps: for at in 0..entries.len() {
@@ -56,8 +57,8 @@ fn tell_races<K: Sink>(
     Ok(())
 }
 
-/// How many races there are, and the line of each, which takes no memory of their number. They are
-/// looked for twice, since their number comes first. What is handed out is the end of the reply,
+/// How many races there are, and the line of each, which takes no memory of their count. They are
+/// looked for twice, since the count comes first. What is handed out is the end of the reply,
 /// and still to be written.
 pub fn races_reply<K: Sink>(alloc: Global, sink: &mut K, live: &Live) -> Result<Draft, Unwritten>
     requires failures { K.failures sink.old < 2 ^ 64 - 1 }
@@ -66,11 +67,12 @@ pub fn races_reply<K: Sink>(alloc: Global, sink: &mut K, live: &Live) -> Result<
     ensures err { OnErr result (Begins (Reply live.now.session (command.Show view.Races))
         (K.taken sink.old) (K.taken sink.new)) }
     ensures ok { OnOk result (K.failures sink.new ≡ K.failures sink.old) }
-    ensures failed { IfErr result (λ why. K.failures sink.new ≡ K.failures sink.old + failed_at why) }
+    ensures failed { IfErr result (λ why.
+        K.failures sink.new ≡ K.failures sink.old + failed_at why) }
 {
     let entries = live.core().legal_entries();
     let count = count_races(alloc, &entries)?;
     let mut text = races_head(alloc, count)?;
-    tell_races(alloc, sink, &mut text, &entries)?;
+    write_races(alloc, sink, &mut text, &entries)?;
     Ok(text)
 }

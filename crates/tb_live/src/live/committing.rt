@@ -110,7 +110,9 @@ impl Live {
         requires may { MayCommit self.old.session seat plan }
         requires prepared { self.old.prepared ≡ Some (entry_to_come seat self.old.session plan) }
         ensures place { result ≡ length self.old.session.journal }
-        ensures session { self.new.session ≡ with_seat (with_entry self.old.session (entry_to_come seat self.old.session plan)) seat (Some plan.config.task) }
+        ensures session { self.new.session
+            ≡ with_seat (with_entry self.old.session (entry_to_come seat self.old.session plan))
+            seat (Some plan.config.task) }
     {
         let claim = self.control.claims.take(seat);
         let place = self.journal.len() as u32;

@@ -4,7 +4,7 @@ use Rattle.tb_lines.proofs.KnownLemmas.{appends_nil}
 use Rattle.tb_draft.proofs.WrittenLemmas.{on_err, told_passed}
 use Rattle.tb_replies.proofs.PieceLemmas.{lines_begun, lines_cut, lines_told, more_waits}
 use Rattle.tb_replies.proofs.EdgeLemmas.{lines_grow, lines_more, lines_of}
-use Rattle.tb_replies.proofs.edges.tell_edges.Goals as goal
+use Rattle.tb_replies.proofs.edges.write_edges.Goals as goal
 
 pub returns-in_err-new-clause-err : goal.returns-in_err-new-clause-err
 returns-in_err-new-clause-err g c = on_err c.from_residual.result _ (0, appends_nil _)

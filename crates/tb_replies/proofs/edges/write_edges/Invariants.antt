@@ -3,7 +3,7 @@ use Rattle.tb_draft.specs.Written.{Told}
 use Rattle.tb_order.specs.Walks.{HasNeedsTo}
 use Rattle.tb_replies.proofs.EdgeLemmas.{lines_of}
 use Rattle.tb_replies.proofs.PieceLemmas.{so_far}
-use Rattle.tb_replies.proofs.edges.tell_edges.Given as goal
+use Rattle.tb_replies.proofs.edges.write_edges.Given as goal
 
 -- the immediate needs of the steps so far are written, and no call failed
 abbrev pub invariant-steps : goal.invariant-steps

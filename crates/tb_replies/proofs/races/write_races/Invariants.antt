@@ -3,7 +3,7 @@ use Rattle.tb_draft.specs.Written.{Told}
 use Rattle.tb_order.specs.Walks.{HasRacesTo}
 use Rattle.tb_replies.proofs.RaceLemmas.{lines_of}
 use Rattle.tb_replies.proofs.PieceLemmas.{so_far}
-use Rattle.tb_replies.proofs.races.tell_races.Given as goal
+use Rattle.tb_replies.proofs.races.write_races.Given as goal
 
 -- the races of the steps so far are written, and no call failed
 abbrev pub invariant-steps : goal.invariant-steps
