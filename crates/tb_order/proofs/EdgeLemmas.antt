@@ -16,7 +16,7 @@ use Rattle.tb_order.specs.declared.edge.Edge.{Edge}
 use Rattle.tb_order.specs.Edges.{as_edge, edges}
 use Rattle.tb_order.specs.Told.{told}
 
--- numbers that fall, all of them below n, are at most n
+-- indexes that fall, all of them below n, are at most n
 pub falling_few : (n : ℕ) (xs : List ℕ) → ((i j : ℕ) → i < j → j < length xs → place_at xs j < place_at xs i) → ((i : ℕ) → i < length xs → place_at xs i < n) → length xs ≤ n
 falling_few n [] falls low = omega arith
 falling_few n (x ∷ xs) falls low =
