@@ -79,8 +79,8 @@ module _ (lines : History → List ℕ) (entries : List Entry) (start : List ℕ
 
 module _ (s : Session) (view : View) (text : List ℕ) (is : text ≡ shown s view) where
   -- all of it is written
-  pub view_told : (a b : Option (List ℕ)) (rest : List ℕ) → Told a b rest (λ told. told ≡ text) → Told a b rest (λ out. Reply s (Show view) out s)
-  view_told a b rest t = told_on a b rest rest _ _ t (λ front so. (so ∙ is, refl))
+  pub view_written : (a b : Option (List ℕ)) (rest : List ℕ) → Told a b rest (λ told. told ≡ text) → Told a b rest (λ out. Reply s (Show view) out s)
+  view_written a b rest t = told_on a b rest rest _ _ t (λ front so. (so ∙ is, refl))
 
   -- a front of it is a beginning of the reply
   pub view_begins : (a b : Option (List ℕ)) → WroteFront a b text → Begins (Reply s (Show view)) a b

@@ -46,7 +46,7 @@ fn tell_edges<K: Sink>(
 }
 
 /// How many immediate needs all steps have, and the line of each, which takes no memory of their
-/// number. They are looked for twice, since their number comes first. What is handed out is the end
+/// length. They are looked for twice, since the count comes first. What is handed out is the end
 /// of the reply, and still to be written.
 pub fn edges_reply<K: Sink>(alloc: Global, sink: &mut K, live: &Live) -> Result<Draft, Unwritten>
     requires failures { K.failures sink.old < 2 ^ 64 - 1 }

@@ -56,8 +56,8 @@ fn tell_races<K: Sink>(
     Ok(())
 }
 
-/// How many races there are, and the line of each, which takes no memory of their number. They are
-/// looked for twice, since their number comes first. What is handed out is the end of the reply,
+/// How many races there are, and the line of each, which takes no memory of their length. They are
+/// looked for twice, since the count comes first. What is handed out is the end of the reply,
 /// and still to be written.
 pub fn races_reply<K: Sink>(alloc: Global, sink: &mut K, live: &Live) -> Result<Draft, Unwritten>
     requires failures { K.failures sink.old < 2 ^ 64 - 1 }

@@ -1,10 +1,8 @@
-use Rattle.std.proofs.Common.{◌≡◌, ◌++◌}
-use Rattle.tb_steps.specs.Scans.{history_of}
 use Rattle.tb_draft.proofs.WrittenLemmas.{on_err}
 use Rattle.tb_view.specs.declared.view.View.TheVariants.{Hist}
 use Rattle.tb_view.proofs.ShownLemmas.{entries_are}
 use Rattle.tb_replies.proofs.HistoryLemmas.{history_shown}
-use Rattle.tb_replies.proofs.PieceLemmas.{view_begins, view_told}
+use Rattle.tb_replies.proofs.PieceLemmas.{view_begins, view_written}
 use Rattle.tb_replies.proofs.history.history_reply.Goals as goal
 
 pub returns-in_err-tell_steps-clause-err : goal.returns-in_err-tell_steps-clause-err
@@ -19,4 +17,4 @@ returns-clause-told g c =
     let s = c.args.live.now.session in
     let all = entries_are s c.core.result.now.run c.legal_entries-entries.result c.core.ensures.history c.legal_entries-entries.ensures.steps in
     let is = history_shown s _ c.legal_entries-entries.result _ c.in_ok-text.ensures c.program.ensures all in
-    view_told s Hist _ is _ _ _ c.in_ok-tell_steps.ensures.told
+    view_written s Hist _ is _ _ _ c.in_ok-tell_steps.ensures.told

@@ -3,7 +3,7 @@ use Rattle.tb_draft.proofs.WrittenLemmas.{on_err}
 use Rattle.tb_view.specs.declared.view.View.TheVariants.{Races}
 use Rattle.tb_view.proofs.ShownLemmas.{entries_are}
 use Rattle.tb_replies.proofs.RaceLemmas.{races_shown}
-use Rattle.tb_replies.proofs.PieceLemmas.{view_begins, view_told}
+use Rattle.tb_replies.proofs.PieceLemmas.{view_begins, view_written}
 use Rattle.tb_replies.proofs.races.races_reply.Goals as goal
 
 pub returns-in_err-tell_races-clause-err : goal.returns-in_err-tell_races-clause-err
@@ -18,4 +18,4 @@ returns-clause-told g c =
     let s = c.args.live.now.session in
     let all = entries_are s c.core.result.now.run c.legal_entries-entries.result c.core.ensures.history c.legal_entries-entries.ensures.steps in
     let is = races_shown s (history_of c.legal_entries-entries.result) _ _ c.in_ok-count.ensures c.in_ok-text.ensures all in
-    view_told s Races _ is _ _ _ c.in_ok-tell_races.ensures.told
+    view_written s Races _ is _ _ _ c.in_ok-tell_races.ensures.told

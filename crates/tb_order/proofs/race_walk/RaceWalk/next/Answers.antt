@@ -24,8 +24,8 @@ returns-clause-race c =
     subst (λ (v : Event). Legal cells (v ∷ F)) (sym same) (legal_to cells entries n x.0 w x.1 c.requires.legal.legal) in
     IfOk-weaker c.push_action.result _ _
     (λ race is.
-        let its = is cells F (c.requires.walk.known cells c.requires.legal.legal) legal in
-        races_more entries n x.0 w x.1 race (λ v there. its ∙ ap (race_of F) (same ∙ ap (λ (e : Entry). e.event) (read_there entries n x.0 v w x.1 there))))
+    let its = is cells F (c.requires.walk.known cells c.requires.legal.legal) legal in
+    races_more entries n x.0 w x.1 race (λ v there. its ∙ ap (race_of F) (same ∙ ap (λ (e : Entry). e.event) (read_there entries n x.0 v w x.1 there))))
     c.push_action.ensures.race
 
 pub returns-clause-walk : goal.returns-clause-walk
