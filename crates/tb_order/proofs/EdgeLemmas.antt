@@ -33,11 +33,11 @@ module _ (entries : List Entry) (at : ℕ) (x : Entry) (within : at < length ent
 
   pub edges_more : (id : StepId) → step_at entries at ≡ Some id → (causes : List Cause) → causes ≡ reverse needed → (found : List Edge) → found ≡ map (as_edge id) causes
       → reverse (edges (history_of (take (at + 1) entries))) ≡ reverse (edges F) ++ found
-  edges_more id named causes told_so found are =
+  edges_more id named causes listed found are =
       let e = step_of F x.event in
       let same : id ≡ e = some_same _ _ (sym named ∙ step_read entries at x within here) in
       let its : found ≡ reverse (map (as_edge e) needed) =
-      are ∙ ap (λ (i : StepId). map (as_edge i) causes) same ∙ ap (map (as_edge e)) told_so ∙ map-reverse (as_edge e) needed in
+      are ∙ ap (λ (i : StepId). map (as_edge i) causes) same ∙ ap (map (as_edge e)) listed ∙ map-reverse (as_edge e) needed in
       ap (λ K. reverse (edges K)) (history_more entries at x within here)
       ∙ reverse-append (map (as_edge e) needed) (edges F)
       ∙ ap (λ (es : List Edge). reverse (edges F) ++ es) (sym its)

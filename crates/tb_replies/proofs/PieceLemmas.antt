@@ -1,5 +1,6 @@
 -- A text along the stored steps, written in pieces, and the reply to a view that is such a text.
-use Rattle.std.proofs.Common.{◌≡◌, ◌≤◌, ℕ, List, [], ◌∷◌, ◌++◌, take, drop, length, refl, sym, ap, ◌∙◌, append_assoc, append-nil, subst, Option}
+use Rattle.std.proofs.Common.{◌≡◌, ◌≤◌, ℕ, List, [], ◌∷◌, ◌++◌, take, drop, length, refl, sym, ap, ◌∙◌, append_assoc, append-nil, subst, Option, Result, Ok, Err, IfErr}
+use Rattle.std.specs.Result.{IsErrAnd}
 use Rattle.std.proofs.lemmas.List.{take_all, take-append-drop}
 use Rattle.tb_lines.proofs.KnownLemmas.{appends_nil}
 use Rattle.tb_model.specs.declared.event.Event.{Event}
@@ -14,6 +15,11 @@ use Rattle.tb_draft.proofs.WrittenLemmas.{told_on, front_held, longer}
 use Rattle.tb_view.specs.declared.view.View.{View}
 use Rattle.tb_replies.specs.Replies.{Reply, shown}
 use Rattle.tb_replies.specs.Told.{Begins}
+
+-- what is known of an error that `?` hands on
+pub if_err : {T E : Type 0} (r : Result T E) (P Q : E → Type 0) → ((why : E) → P why → Q why) → IsErrAnd r P → IfErr r Q
+if_err (Ok x) P Q f h = absurd h
+if_err (Err why) P Q f h = f why h
 
 -- what is written of a history begins what is written of a longer one
 abbrev pub Grows : (History → List ℕ) → Type 0

@@ -1,27 +1,27 @@
-use Rattle.std.proofs.Common.{◌+◌, arith, rules, take}
+use Rattle.std.proofs.Common.{◌+◌, ◌++◌, ◌∙◌, List, ap, arith, reverse, rules, sym, take}
 use Rattle.tb_steps.specs.Scans.{history_of}
-use Rattle.tb_lines.proofs.KnownLemmas.{appends_nil}
+use Rattle.tb_order.specs.declared.edge.Edge.{Edge}
+use Rattle.tb_order.specs.Edges.{edges}
 use Rattle.tb_draft.proofs.WrittenLemmas.{on_err, told_passed}
 use Rattle.tb_replies.proofs.PieceLemmas.{lines_begun, lines_cut, lines_told, more_waits}
 use Rattle.tb_replies.proofs.EdgeLemmas.{lines_grow, lines_more, lines_of}
 use Rattle.tb_replies.proofs.edges.write_edges.Goals as goal
 
-pub returns-in_err-new-clause-err : goal.returns-in_err-new-clause-err
-returns-in_err-new-clause-err g c = on_err c.from_residual.result _ (0, appends_nil _)
-
-pub returns-in_err-next-clause-err : goal.returns-in_err-next-clause-err
-returns-in_err-next-clause-err g c =
-    on_err c.from_residual-in_err-next.result _ (lines_begun lines_of c.args.entries.now c.args.text.now lines_grow _ _ c.steps.at _ c.steps.invariant.told)
+pub returns-in_err-edges-clause-err : goal.returns-in_err-edges-clause-err
+returns-in_err-edges-clause-err g c =
+    on_err c.from_residual-in_err-edges.result _ (lines_begun lines_of c.args.entries.now c.args.text.now lines_grow _ _ c.steps.at _ c.steps.invariant.told)
 
 pub returns-in_err-append_edges-clause-err : goal.returns-in_err-append_edges-clause-err
 returns-in_err-append_edges-clause-err g c =
-    on_err c.from_residual-in_err-append_edges.result _ (lines_begun lines_of c.args.entries.now c.args.text.now lines_grow _ _ c.steps.at _ c.steps.invariant.told)
+    on_err c.from_residual-in_err-append_edges.result _
+    (lines_begun lines_of c.args.entries.now c.args.text.now lines_grow _ _ c.steps.at _ c.steps.invariant.told)
 
 pub returns-in_err-pass_on-clause-err : goal.returns-in_err-pass_on-clause-err
 returns-in_err-pass_on-clause-err g c =
     let entries = c.args.entries.now in
     let n = c.steps.at in
-    let more = lines_more (history_of (take n entries)) (history_of (take (n + 1) entries)) _ c.in_ok-edges.ensures.edges in
+    let more = lines_more (history_of (take n entries)) (history_of (take (n + 1) entries)) _
+    (c.in_ok-edges.ensures.edges ∙ ap (λ (es : List Edge). reverse (edges (history_of (take n entries))) ++ es) (sym c.deref.ensures.value)) in
     let waits = more_waits lines_of entries c.args.text.now _ _ n (n + 1) _ _ _ c.steps.invariant.told c.in_ok-append_edges.ensures more in
     on_err c.from_residual-in_err-pass_on.result _ (lines_cut lines_of entries c.args.text.now lines_grow _ _ _ (n + 1) _ waits c.in_err-pass_on.ensures.err.0)
 
@@ -29,7 +29,8 @@ pub steps-preserved : goal.steps-preserved
 steps-preserved g c =
     let entries = c.args.entries.now in
     let n = c.steps.at in
-    let more = lines_more (history_of (take n entries)) (history_of (take (n + 1) entries)) _ c.in_ok-edges.ensures.edges in
+    let more = lines_more (history_of (take n entries)) (history_of (take (n + 1) entries)) _
+    (c.in_ok-edges.ensures.edges ∙ ap (λ (es : List Edge). reverse (edges (history_of (take n entries))) ++ es) (sym c.deref.ensures.value)) in
     let waits = more_waits lines_of entries c.args.text.now _ _ n (n + 1) _ _ _ c.steps.invariant.told c.in_ok-append_edges.ensures more in record {
       walk = c.in_ok-edges.ensures.walk;
       told = told_passed _ _ _ _ _ _ waits c.in_ok-pass_on.ensures.ok.0;

@@ -1,5 +1,3 @@
-use Rattle.std.proofs.Common.{◌≡◌, ◌++◌}
-use Rattle.tb_steps.specs.Scans.{history_of}
 use Rattle.tb_draft.proofs.WrittenLemmas.{on_err}
 use Rattle.tb_view.specs.declared.view.View.TheVariants.{Hist}
 use Rattle.tb_view.proofs.ShownLemmas.{entries_are}

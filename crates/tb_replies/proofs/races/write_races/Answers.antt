@@ -1,21 +1,20 @@
-use Rattle.std.proofs.Common.{◌+◌, arith, rules, take}
+use Rattle.std.proofs.Common.{◌+◌, ◌∙◌, ℕ, ap₂, arith, rules, sym, take}
 use Rattle.tb_steps.specs.Scans.{history_of}
-use Rattle.tb_lines.proofs.KnownLemmas.{appends_nil}
 use Rattle.tb_draft.proofs.WrittenLemmas.{on_err, told_passed}
-use Rattle.tb_replies.proofs.PieceLemmas.{lines_begun, lines_cut, lines_told, more_waits}
+use Rattle.tb_replies.specs.Told.{failed_at}
+use Rattle.tb_replies.specs.declared.unwritten.Unwritten.{Unwritten}
+use Rattle.tb_replies.proofs.PieceLemmas.{if_err, lines_begun, lines_cut, lines_told, more_waits}
 use Rattle.tb_replies.proofs.RaceLemmas.{lines_grow, lines_more, lines_of}
 use Rattle.tb_replies.proofs.races.write_races.Goals as goal
 
-pub returns-in_err-new-clause-err : goal.returns-in_err-new-clause-err
-returns-in_err-new-clause-err g c = on_err c.from_residual.result _ (0, appends_nil _)
-
-pub returns-in_err-next-clause-err : goal.returns-in_err-next-clause-err
-returns-in_err-next-clause-err g c =
-    on_err c.from_residual-in_err-next.result _ (lines_begun lines_of c.args.entries.now c.args.text.now lines_grow _ _ c.steps.at _ c.steps.invariant.told)
+pub returns-in_err-race-clause-err : goal.returns-in_err-race-clause-err
+returns-in_err-race-clause-err g c =
+    on_err c.from_residual-in_err-race.result _ (lines_begun lines_of c.args.entries.now c.args.text.now lines_grow _ _ c.steps.at _ c.steps.invariant.told)
 
 pub returns-in_err-append_race-clause-err : goal.returns-in_err-append_race-clause-err
 returns-in_err-append_race-clause-err g c =
-    on_err c.from_residual-in_err-append_race.result _ (lines_begun lines_of c.args.entries.now c.args.text.now lines_grow _ _ c.steps.at _ c.steps.invariant.told)
+    on_err c.from_residual-in_err-append_race.result _
+    (lines_begun lines_of c.args.entries.now c.args.text.now lines_grow _ _ c.steps.at _ c.steps.invariant.told)
 
 pub returns-in_err-pass_on-clause-err : goal.returns-in_err-pass_on-clause-err
 returns-in_err-pass_on-clause-err g c =
@@ -38,3 +37,9 @@ steps-preserved g c =
 
 pub returns-clause-told : goal.returns-clause-told
 returns-clause-told g c = lines_told lines_of c.args.entries.now c.args.text.now _ _ c.steps.at _ (omega arith) c.steps.invariant.told
+
+pub returns-in_err-pass_on-clause-failed : goal.returns-in_err-pass_on-clause-failed
+returns-in_err-pass_on-clause-failed g c =
+    if_err c.from_residual-in_err-pass_on.result _ _
+    (λ why is. c.in_err-pass_on.ensures.err.1 ∙ ap₂ (λ (n : ℕ) (w : Unwritten). n + failed_at w) c.steps.invariant.failures (sym is))
+    c.from_residual-in_err-pass_on.ensures.1
