@@ -210,7 +210,8 @@ static void leave_to_the_parent(void) {
     if (taskback_own) {
         taskback_own->unread = 0;
         use_piece(taskback_own, fresh_memory(PIECE));
-        taskback_own->part_key += PART;
+        taskback_own->lanes.follows = 0;
+        begin_part(taskback_own);
     }
 }
 

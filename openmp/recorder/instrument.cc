@@ -4,6 +4,7 @@
 #include "llvm/Passes/PassPlugin.h"
 
 #include "known.h"
+#include "stretches.h"
 
 namespace {
 
@@ -98,8 +99,12 @@ private:
                 add_filling(one, is_told, fillings);
             }
         }
+        Stretches stretches(function);
         for (auto &access : found)
-            put_call(*access.first, access.second);
+            if (!simd.is_lanes(*access.first) && !is_number(*access.first, access.second, is_loop))
+                put_call(*access.first, access.second, &stretches);
+            else
+                put_call(*access.first, access.second);
         simd.put_calls();
         for (Instruction *one : restores)
             put_call_of_restore(*one);
@@ -109,6 +114,7 @@ private:
             put_call_of_last(*function.getParent(), branch->getSuccessor(0), "taskback_last_begin");
             put_call_of_last(*function.getParent(), branch->getSuccessor(1), "taskback_last_end");
         }
+        stretches.put_calls(stretch_count_);
     }
 
     // Whether the recorder may begin a new part of the task there: up to it a pointer that is loaded from again tells nothing.
@@ -155,12 +161,14 @@ private:
         return added.first->second;
     }
 
-    static void put_call(Instruction &one, Value *pointer) {
+    static void put_call(Instruction &one, Value *pointer, Stretches *stretches = nullptr) {
         const auto *store = dyn_cast<StoreInst>(&one);
         Type *type = store ? store->getValueOperand()->getType() : one.getType();
         const uint64_t size = one.getModule()->getDataLayout().getTypeStoreSize(type);
         if (size > LONGEST || (size & (size - 1)) != 0)
             return put_call_of_size(one, pointer, ConstantInt::get(Type::getInt64Ty(one.getContext()), size), store);
+        if (stretches && stretches->add(one, pointer, size))
+            return;
         IRBuilder<> builder(&one);
         Value *given = as_bytes(builder, pointer);
         auto name = (store ? "__sanitizer_cov_store" : "__sanitizer_cov_load") + std::to_string(size);
@@ -244,6 +252,7 @@ private:
     }
 
     const bool is_optimised_;
+    unsigned stretch_count_ = 0;
 };
 
 }  // namespace
