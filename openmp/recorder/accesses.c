@@ -55,9 +55,9 @@ static inline struct row *row_at(struct own *own, uint64_t place) {
 
 /* Whether an element that was touched isn't written down again; in a part that isn't busy each element that is written has
    its own number. */
-__attribute__((always_inline)) static inline int is_known(struct own *own, const struct touched *touched, enum kind kind, uint64_t address) {
+__attribute__((always_inline)) static inline int is_known(struct own *own, const struct touched *touched, enum kind kind, uint64_t address, uint32_t shift) {
     if (touched->first->address == address) {
-        touch_again(own, touched->first, kind, 1);
+        touch_again(own, touched->first, kind, 1u << shift, 1);
         return 1;
     }
     own->last = 0;
@@ -107,29 +107,39 @@ static inline int may_join(const struct touched *touched, const struct frame *us
     return touched->growth == GROWS && !(touched->first->mark & ATOMIC) && touched->frame == (uint64_t)user && touched->caller == user->back;
 }
 
-/* From here on the block's first event is a row. */
+/* From here on the block's first event is a row; whether it goes on the program's code sees itself, where it has asked for that. */
 static inline void keep_row(struct own *own, const struct touched *touched, uint32_t shift) {
     struct event *first = touched->first;
+    const uint64_t low = first->address, length = first->size;
     first->mark = (uint8_t)(row_mark(shift) | (first->mark & OUTERMOST));
-    *row_at(own, touched->key) = (struct row){first->address, first->size, touched->key, touched->frame, touched->caller, first};
+    if (own->asking.place == (uint32_t)touched->key && !own->lanes.depth) {
+        own->stretches |= 1ull << own->asking.number;
+        taskback_stretches[own->asking.number] = (struct stretch){low + length, low, &first->size};
+    } else {
+        *row_at(own, touched->key) = (struct row){low, length, touched->key, touched->frame, touched->caller, first};
+    }
 }
 
-/* One more element of a block that the place has touched, by one chain of callers: the next one behind the first is the
-   same event. Where the part has much to tell, all others of the block are a second one. */
-__attribute__((always_inline)) static inline int joins(struct own *own, struct touched *touched, uint64_t address, uint32_t shift, uint64_t bit,
-                        const struct frame *frame) {
+/* One more element of a block that the place has touched, by one chain of callers, where the part has much to tell: all but
+   the first, or a row, are a second event. */
+__attribute__((always_inline)) static inline int joins_set(struct own *own, struct touched *touched, uint64_t bit, const struct frame *frame) {
+    if (!touched->set || touched->bits & bit || !may_join(touched, frame->outer))
+        return 0;
+    touched->set->value |= bit;
+    touched->bits |= bit;
+    own->last = 0;
+    return 1;
+}
+
+/* The next one behind the first is the same event. */
+static inline int joins(struct own *own, struct touched *touched, uint64_t address, uint32_t shift, uint64_t bit, const struct frame *frame) {
     struct event *first = touched->first;
-    if (!may_join(touched, frame->outer))
+    if (joins_set(own, touched, bit, frame))
+        return 1;
+    if (touched->set || !may_join(touched, frame->outer) || address != first->address + first->size)
         return 0;
-    if (touched->set) {
-        touched->set->value |= bit;
-        touched->bits |= bit;
-    } else if (address == first->address + first->size) {
-        first->size = (uint16_t)(first->size + (1u << shift));
-        keep_row(own, touched, shift);
-    } else {
-        return 0;
-    }
+    first->size = (uint16_t)(first->size + (1u << shift));
+    keep_row(own, touched, shift);
     own->last = 0;
     return 1;
 }
@@ -187,7 +197,7 @@ __attribute__((noinline)) static void touch_more(struct own *own, enum kind kind
     struct touched *touched = touched_at(own, block, place);
     int is_same = touched->key == key_of(own, place) && touched->block == block;
     uint64_t told = is_same ? told_of(touched, shift) : 0;
-    if (is_left_out(own, kind, address) || (told & bit && is_known(own, touched, kind, address)))
+    if (is_left_out(own, kind, address) || (told & bit && is_known(own, touched, kind, address, shift)))
         return;
     if (is_same && is_aligned && touched->growth == UNKNOWN)
         find_growth(own, touched, kind, address, shift, frame);
@@ -206,11 +216,6 @@ __attribute__((noinline)) static void touch_more(struct own *own, enum kind kind
                                 user ? user->back : 0, is_same ? touched->growth : UNKNOWN};
 }
 
-__attribute__((noinline)) static void load_first(struct own *own, uint64_t address, uint32_t shift, struct touched *touched, uint64_t place,
-                                                 struct frame *frame) {
-    touch_first(own, READ, address, shift, touched, place, frame);
-}
-
 /* The program's store comes next: where its line of the cache is far, it is under way while the event is written down. */
 static inline void fetch_to_write(uint64_t address) {
 #ifdef __x86_64__
@@ -218,12 +223,6 @@ static inline void fetch_to_write(uint64_t address) {
 #else
     __builtin_prefetch((const void *)address, 1);
 #endif
-}
-
-__attribute__((noinline)) static void store_first(struct own *own, uint64_t address, uint32_t shift, struct touched *touched, uint64_t place,
-                                                  struct frame *frame) {
-    fetch_to_write(address);
-    touch_first(own, WRITE, address, shift, touched, place, frame);
 }
 
 void taskback_access(enum kind kind, uint64_t address, uint64_t size, uint64_t place, int mark) {
@@ -234,7 +233,7 @@ void taskback_access(enum kind kind, uint64_t address, uint64_t size, uint64_t p
         taskback_part_lane(own);
     struct touched *touched = touched_at(own, alone(kind, address), place);
     if (touched->key == key_of(own, place) && touched->block == alone(kind, address) && touched->bits == size) {
-        touch_again(own, touched->first, kind, size <= LONGEST_NUMBER && !(mark & FREED));
+        touch_again(own, touched->first, kind, size, size <= LONGEST_NUMBER && !(mark & FREED));
         return;
     }
     struct event *event = note_touch(own, kind, address, size, place, mark, frame_of(own, place, __builtin_frame_address(0)));
@@ -250,23 +249,41 @@ __attribute__((noinline)) static void touch_known(struct own *own, enum kind kin
     int is_told = told_of(touched, shift) & bit ? 1 : 0;
     if (is_told && kind == READ && !own->lanes.depth && may_join(touched, frame->outer) && address - touched->first->address < touched->first->size)
         keep_row(own, touched, shift);
-    if (!(is_told ? is_known(own, touched, kind, address) : joins(own, touched, address, shift, bit, frame)))
+    if (!(is_told ? is_known(own, touched, kind, address, shift) : joins(own, touched, address, shift, bit, frame)))
         touch_more(own, kind, address, shift, place, frame);
 }
 
+/* What is touched for the first time in its block. */
+typedef void first_function(struct own *, uint64_t, struct touched *, uint64_t, struct frame *);
+
 /* Each way ends with a call, so that none has registers to keep. */
-__attribute__((always_inline)) static inline void touch(struct own *own, enum kind kind, uint64_t address, uint32_t shift, uint64_t place, struct frame *frame) {
+__attribute__((always_inline)) static inline void touch(struct own *own, enum kind kind, uint64_t address, uint32_t shift, uint64_t place, struct frame *frame,
+                                                        first_function *first) {
     uint64_t block = address >> (shift + 6);
     struct touched *touched = touched_at(own, block, place);
     if (address & ((1u << shift) - 1))
         touch_more(own, kind, address, shift, place, frame);
-    else if (touched->key == key_of(own, place) && touched->block == block)
+    else if (touched->key != key_of(own, place) || touched->block != block)
+        first(own, address, touched, place, frame);
+    else if (!joins_set(own, touched, 1ull << (address >> shift & 63), frame))
         touch_known(own, kind, address, shift, place, frame);
-    else if (kind == READ)
-        load_first(own, address, shift, touched, place, frame);
-    else
-        store_first(own, address, shift, touched, place, frame);
 }
+
+#define FIRST(bytes)                                                                                                        \
+    __attribute__((noinline)) static void load_first##bytes(struct own *own, uint64_t address, struct touched *touched,    \
+                                                            uint64_t place, struct frame *frame) {                         \
+        touch_first(own, READ, address, __builtin_ctz(bytes), touched, place, frame);                                      \
+    }                                                                                                                       \
+    __attribute__((noinline)) static void store_first##bytes(struct own *own, uint64_t address, struct touched *touched,   \
+                                                             uint64_t place, struct frame *frame) {                        \
+        fetch_to_write(address);                                                                                           \
+        touch_first(own, WRITE, address, __builtin_ctz(bytes), touched, place, frame);                                     \
+    }
+FIRST(1)
+FIRST(2)
+FIRST(4)
+FIRST(8)
+FIRST(16)
 
 /* Whether a lane's access is the next one of those that it follows, and so isn't written down. */
 static inline int follows(struct lanes *lanes, uint64_t address, uint64_t place, const struct frame *user) {
@@ -283,55 +300,51 @@ static inline int follows(struct lanes *lanes, uint64_t address, uint64_t place,
 /* In a `simd` loop, where it isn't as in the lane before. */
 __attribute__((noinline)) static void touch_in_lane(struct own *own, enum kind kind, uint64_t address, uint32_t shift, uint64_t place,
                                                     struct frame *frame) {
+    static first_function *const firsts[2][5] = {{load_first1, load_first2, load_first4, load_first8, load_first16},
+                                                 {store_first1, store_first2, store_first4, store_first8, store_first16}};
     if (is_quiet(own, (const void *)address) || (own->is_alone && kind == READ))
         return;
     if (own->lanes.follows)
         taskback_part_lane(own);
-    touch(own, kind, address, shift, place, frame);
+    touch(own, kind, address, shift, place, frame, firsts[kind == WRITE][shift]);
     struct frame *user = outer_of(own, frame);
     taskback_lane_steps(own, &(struct lane_step){address, 0, (uint64_t)user, user ? user->back : 0, place, shift, kind, 0});
 }
 
 /* What isn't the next element of a row. The calls below end with a call of these, as these do, so that those that go on have
    no registers to keep; `frame` is then that of the call still. */
-__attribute__((noinline)) static void load(struct own *own, uint64_t address, uint32_t shift, uint64_t place, struct frame *frame) {
+__attribute__((always_inline)) static inline void access_here(struct own *own, enum kind kind, uint64_t address, uint32_t shift, uint64_t place,
+                                                              struct frame *frame, first_function *first) {
     if (own->lanes.depth) {
         if (!follows(&own->lanes, address, place, frame->outer))
-            touch_in_lane(own, READ, address, shift, place, frame);
-    } else if (!is_quiet(own, (const void *)address) && !own->is_alone)
-        touch(own, READ, address, shift, place, frame);
+            touch_in_lane(own, kind, address, shift, place, frame);
+    } else if (!is_quiet(own, (const void *)address) && !(kind == READ && own->is_alone))
+        touch(own, kind, address, shift, place, frame, first);
 }
 
-__attribute__((noinline)) static void store(struct own *own, uint64_t address, uint32_t shift, uint64_t place, struct frame *frame) {
-    if (own->lanes.depth) {
-        if (!follows(&own->lanes, address, place, frame->outer))
-            touch_in_lane(own, WRITE, address, shift, place, frame);
-    } else if (!is_quiet(own, (const void *)address))
-        touch(own, WRITE, address, shift, place, frame);
-}
-
-/* By a thread that is new, or in a worksharing loop, of which it may be the number that is stored. */
-__attribute__((noinline)) static void load_apart(uint64_t address, uint32_t shift, uint64_t place, struct frame *frame) {
-    load(own_state(), address, shift, place, frame);
-}
-
-__attribute__((noinline)) static void store_apart(uint64_t address, uint32_t shift, uint64_t place, struct frame *frame) {
-    struct own *own = own_state();
-    if (own->loop.is_on)
-        taskback_stored_in_loop(own, address, 1u << shift);
-    if (!goes_on(own, WRITE, address, shift, place, frame))
-        store(own, address, shift, place, frame);
-}
-
-/* By the pass, in a loop: from here on the program's code looks itself whether the row goes on. */
-static inline void begin_stretch(struct own *own, uint64_t place, uint64_t number) {
-    struct row *row = row_at(own, place);
-    if (own->lanes.depth)
-        return;
-    row->key = 0;
-    own->stretches |= 1ull << number;
-    taskback_stretches[number] = (struct stretch){row->low + row->length, row->low, &row->event->size};
-}
+/* Also by a thread that is new, or in a worksharing loop, of which it may be the number that is stored. */
+#define HERE(bytes)                                                                                                         \
+    __attribute__((noinline)) static void load##bytes(struct own *own, uint64_t address, uint64_t place, struct frame *frame) {  \
+        access_here(own, READ, address, __builtin_ctz(bytes), place, frame, load_first##bytes);                            \
+    }                                                                                                                       \
+    __attribute__((noinline)) static void store##bytes(struct own *own, uint64_t address, uint64_t place, struct frame *frame) { \
+        access_here(own, WRITE, address, __builtin_ctz(bytes), place, frame, store_first##bytes);                          \
+    }                                                                                                                       \
+    __attribute__((noinline)) static void load_apart##bytes(uint64_t address, uint64_t place, struct frame *frame) {       \
+        load##bytes(own_state(), address, place, frame);                                                                   \
+    }                                                                                                                       \
+    __attribute__((noinline)) static void store_apart##bytes(uint64_t address, uint64_t place, struct frame *frame) {      \
+        struct own *own = own_state();                                                                                     \
+        if (own->loop.is_on)                                                                                               \
+            taskback_stored_in_loop(own, address, bytes);                                                                  \
+        if (!goes_on(own, WRITE, address, __builtin_ctz(bytes), place, frame))                                             \
+            store##bytes(own, address, place, frame);                                                                      \
+    }
+HERE(1)
+HERE(2)
+HERE(4)
+HERE(8)
+HERE(16)
 
 /* By the pass, where an exception is caught or a jump from elsewhere ends: the calls that it has left don't end theirs. */
 void taskback_stretches_end(void) {
@@ -340,33 +353,50 @@ void taskback_stretches_end(void) {
 }
 
 #define FRAME_HERE ((struct frame *)__builtin_frame_address(0))
-#define LOAD(name, bytes, parameters, when_it_goes_on)                                           \
-    void name##bytes parameters {                                                                \
-        struct own *own = taskback_own;                                                          \
-        if (__builtin_expect(!own, 0))                                                           \
-            load_apart((uint64_t)address, __builtin_ctz(bytes), PLACE, FRAME_HERE);              \
-        else if (goes_on(own, READ, (uint64_t)address, __builtin_ctz(bytes), PLACE, FRAME_HERE)) \
-            when_it_goes_on;                                                                     \
-        else                                                                                     \
-            load(own, (uint64_t)address, __builtin_ctz(bytes), PLACE, FRAME_HERE);               \
-    }
-#define STORE(name, bytes, parameters, is_apart, when_it_goes_on)                                 \
-    void name##bytes parameters {                                                                 \
+#define LOAD(bytes)                                                                               \
+    void __sanitizer_cov_load##bytes(void *address) {                                             \
         struct own *own = taskback_own;                                                           \
-        if (__builtin_expect(!own || (is_apart), 0))                                              \
-            store_apart((uint64_t)address, __builtin_ctz(bytes), PLACE, FRAME_HERE);              \
-        else if (goes_on(own, WRITE, (uint64_t)address, __builtin_ctz(bytes), PLACE, FRAME_HERE)) \
-            when_it_goes_on;                                                                      \
-        else                                                                                      \
-            store(own, (uint64_t)address, __builtin_ctz(bytes), PLACE, FRAME_HERE);               \
+        if (__builtin_expect(!own, 0))                                                            \
+            load_apart##bytes((uint64_t)address, PLACE, FRAME_HERE);                              \
+        else if (!goes_on(own, READ, (uint64_t)address, __builtin_ctz(bytes), PLACE, FRAME_HERE)) \
+            load##bytes(own, (uint64_t)address, PLACE, FRAME_HERE);                               \
     }
-#define IN_LOOP (void *address, uint64_t number)
-#define STRETCH begin_stretch(own, PLACE, number)
-#define ALL(bytes)                                                                \
-    LOAD(__sanitizer_cov_load, bytes, (void *address), (void)0)                  \
-    STORE(__sanitizer_cov_store, bytes, (void *address), own->loop.is_on, (void)0) \
-    LOAD(taskback_load, bytes, IN_LOOP, STRETCH)                                  \
-    STORE(taskback_store, bytes, IN_LOOP, 0, STRETCH)
+#define STORE(bytes)                                                                               \
+    void __sanitizer_cov_store##bytes(void *address) {                                             \
+        struct own *own = taskback_own;                                                            \
+        if (__builtin_expect(!own || own->loop.is_on, 0))                                          \
+            store_apart##bytes((uint64_t)address, PLACE, FRAME_HERE);                              \
+        else if (!goes_on(own, WRITE, (uint64_t)address, __builtin_ctz(bytes), PLACE, FRAME_HERE)) \
+            store##bytes(own, (uint64_t)address, PLACE, FRAME_HERE);                               \
+    }
+/* By the pass, in a lane of a `simd` loop. */
+#define IN_LANE(name, bytes, kind)                                                                                \
+    void taskback_lane_##name##bytes(void *address) {                                                                         \
+        struct own *own = taskback_own;                                                                                       \
+        if (__builtin_expect(!own, 0))                                                                                        \
+            name##_apart##bytes((uint64_t)address, PLACE, FRAME_HERE);                                                        \
+        else if (!follows(&own->lanes, (uint64_t)address, PLACE, FRAME_HERE->outer)                                           \
+                 && !goes_on(own, kind, (uint64_t)address, __builtin_ctz(bytes), PLACE, FRAME_HERE))                          \
+            name##bytes(own, (uint64_t)address, PLACE, FRAME_HERE);                                                           \
+    }
+/* By the pass, in a loop, where its code has looked for the stretch of this number. */
+#define IN_LOOP(name, bytes)                                                 \
+    void taskback_##name##bytes(void *address, uint64_t number) {            \
+        struct own *own = taskback_own;                                      \
+        if (__builtin_expect(!own, 0)) {                                     \
+            name##_apart##bytes((uint64_t)address, PLACE, FRAME_HERE);       \
+            return;                                                          \
+        }                                                                    \
+        own->asking = (struct asking){(uint32_t)PLACE, (uint32_t)number};    \
+        name##bytes(own, (uint64_t)address, PLACE, FRAME_HERE);              \
+    }
+#define ALL(bytes)              \
+    LOAD(bytes)                 \
+    STORE(bytes)                \
+    IN_LANE(load, bytes, READ)  \
+    IN_LANE(store, bytes, WRITE) \
+    IN_LOOP(load, bytes)        \
+    IN_LOOP(store, bytes)
 ALL(1)
 ALL(2)
 ALL(4)

@@ -14,7 +14,7 @@ static void end_frame(struct own *own, uint64_t low, uint64_t size, uint64_t pla
     }
     struct touched *touched = touched_at(own, alone(WRITE, low), place);
     if (touched->key == key_of(own, place) && touched->block == alone(WRITE, low) && touched->bits == size) {
-        touch_again(own, touched->first, WRITE, 0);
+        touch_again(own, touched->first, WRITE, size, 0);
         return;
     }
     struct event *event = note_touch(own, WRITE, low, size, place, FREED | FRAME, user);

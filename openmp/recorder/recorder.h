@@ -65,6 +65,9 @@ struct stretch {
     uint16_t *size;            /* that of the event */
 };
 
+/* The place that calls the recorder, where its code looks at a stretch, which has this number. */
+struct asking { uint32_t place, number; };
+
 enum { STRETCHES = 64 };
 extern __thread struct stretch taskback_stretches[STRETCHES];
 
@@ -122,6 +125,8 @@ struct own {
     uint64_t quiet_span;       /* from stack_low on: memory that no other task can know of */
     uint64_t stack_low;
     struct event *unread;      /* a write whose number is read at the thread's next call */
+    uint32_t unread_size;
+    struct asking asking;
     uint64_t stretches;        /* a bit for each of these that is in use */
     struct event *last;        /* the last load or store, which may turn out to be an atomic operation's */
     int is_alone;              /* no other task and no other thread is there that could touch memory */

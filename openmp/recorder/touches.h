@@ -6,9 +6,8 @@
 
 static inline void read_written(struct own *own) {
     struct event *event = own->unread;
-    uint32_t row = event->mark >> ROW_SHIFT;
     own->unread = 0;
-    event->value = number_at(event->address, row ? 1u << (row - 1) : event->size);
+    event->value = number_at(event->address, own->unread_size);
 }
 
 /* What the creator fills of a task's record, what the runtime does for a task, and what is being sorted. */
@@ -72,12 +71,13 @@ static inline uint64_t alone(enum kind kind, uint64_t address) { return address 
 
 /* An access that comes again in one part of a task changes no order: it is written down once, a write with the number that
    it leaves in the end. */
-__attribute__((always_inline)) static inline void touch_again(struct own *own, struct event *first, enum kind kind, int has_number) {
+__attribute__((always_inline)) static inline void touch_again(struct own *own, struct event *first, enum kind kind, uint64_t size, int has_number) {
     own->last = first;
     if (kind != WRITE || !has_number || own->unread == first)
         return;
     taskback_settle(own);
     own->unread = first;
+    own->unread_size = (uint32_t)size;
 }
 /* `user` is the frame of the function that makes the access; 0 where it can't be told. */
 __attribute__((always_inline)) static inline struct event *note_touch(struct own *own, enum kind kind, uint64_t address, uint64_t size,
@@ -90,8 +90,10 @@ __attribute__((always_inline)) static inline struct event *note_touch(struct own
     uint64_t value = size > LONGEST_NUMBER ? size : kind == READ && has_number ? number_at(address, (uint32_t)size) : 0;
     struct event *event = own->last = write_down(own, kind, number_of_event(kind, mark), own->task, address, value, offset_of(place),
                                                  size_told(size), mark);
-    if (kind == WRITE && has_number)
+    if (kind == WRITE && has_number) {
         own->unread = event;
+        own->unread_size = (uint32_t)size;
+    }
     return event;
 }
 
