@@ -177,15 +177,23 @@ SELDOM static void find_growth(const struct own *own, struct touched *touched, e
         touched->growth = may_grow(own, kind, address, shift, frame) ? GROWS : STAYS;
 }
 
+/* The frame of the function that has called the recorder: the program's functions all keep their pointer. */
+static inline struct frame *user_of(const struct frame *frame) {
+    struct frame *user = frame->outer;
+    if (!user)
+        __builtin_unreachable();
+    return user;
+}
+
 /* The first element of its block that the place touches in this part; `frame` is that of the call. */
 __attribute__((always_inline)) static inline void touch_first(struct own *own, enum kind kind, uint64_t address, uint32_t shift,
                                                               struct touched *touched, uint64_t place, struct frame *frame) {
     if (is_left_out(own, kind, address))
         return;
-    struct frame *user = outer_of(own, frame);
+    struct frame *user = user_of(frame);
     struct event *event = note_touch(own, kind, address, 1u << shift, place, 0, user);
     *touched = (struct touched){key_of(own, place), address >> (shift + 6), 1ull << (address >> shift & 63), event, 0, (uint64_t)user,
-                                user ? user->back : 0, UNKNOWN};
+                                user->back, UNKNOWN};
 }
 
 /* Another element of it, or one that isn't where elements of its size are. */

@@ -14,9 +14,10 @@ static inline void read_written(struct own *own) {
 SELDOM void taskback_find_others(const struct own *own, uint64_t address, int *is_found);
 
 static inline int is_apart(const struct own *own, uint64_t address) {
-    int is_found = 0;
-    if (own->record_size | own->muted | own->sorted.size)
-        taskback_find_others(own, address, &is_found);
+    if (__builtin_expect(!(own->record_size | own->muted | own->sorted.size), 1))
+        return 0;
+    int is_found;
+    taskback_find_others(own, address, &is_found);
     return is_found;
 }
 

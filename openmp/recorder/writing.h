@@ -63,8 +63,7 @@ __attribute__((always_inline)) static inline struct event *write_down(struct own
     if (__builtin_expect(own->next == own->end, 0))
         taskback_turn_page(own);
     struct event *event = own->next++;
-    if (own->next != own->end)
-        own->next->kind = 0;
+    own->next->kind = 0;
     event->address = address;
     event->value = value;
     event->stamp = stamp;
