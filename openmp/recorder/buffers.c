@@ -17,6 +17,9 @@ void *__real_mmap(void *, size_t, int, int, int, off_t);
 
 enum { HEADER = 4096, PAGE = 4096, PIECE = BUFFER * sizeof(struct event) };
 
+/* Behind a piece there is room for the event without a kind at which it ends. */
+enum { PIECE_ROOM = PIECE + PAGE };
+
 __thread struct own *taskback_own;
 int taskback_is_recording;
 static struct own *all_threads;
@@ -58,11 +61,11 @@ static void use_piece(struct own *own, struct event *piece) {
 
 /* A thread's piece of the file, at a page, or nothing where there is no room for it. */
 static struct event *map_piece(void) {
-    uint64_t at = __atomic_fetch_add(&file_end, PIECE + PAGE, __ATOMIC_ACQ_REL);
+    uint64_t at = __atomic_fetch_add(&file_end, PIECE_ROOM + PAGE, __ATOMIC_ACQ_REL);
     at = (at + PAGE - 1) / PAGE * PAGE;
-    if (posix_fallocate(file, (off_t)at, PIECE) != 0)
+    if (posix_fallocate(file, (off_t)at, PIECE_ROOM) != 0)
         return 0;
-    void *piece = __real_mmap(0, PIECE, PROT_READ | PROT_WRITE, MAP_SHARED | MAP_POPULATE, file, (off_t)at);
+    void *piece = __real_mmap(0, PIECE_ROOM, PROT_READ | PROT_WRITE, MAP_SHARED | MAP_POPULATE, file, (off_t)at);
     return piece == MAP_FAILED ? 0 : piece;
 }
 
@@ -116,13 +119,13 @@ SELDOM void taskback_turn_page(struct own *own) {
     if (is_recording)
         run_out_of_room();
     if (own->is_mapped)
-        use_piece(own, fresh_memory(PIECE));
+        use_piece(own, fresh_memory(PIECE_ROOM));
     own->is_mapped = 0;
 }
 
 static void begin_pieces(struct own *own) {
     struct event *piece = taskback_is_recording ? map_piece() : 0;
-    use_piece(own, piece ? piece : fresh_memory(PIECE));
+    use_piece(own, piece ? piece : fresh_memory(PIECE_ROOM));
     own->is_mapped = piece != 0;
     if (piece) {
         own->next++->address = own->index;
@@ -209,8 +212,9 @@ static void leave_to_the_parent(void) {
             own->next = own->end = own->events;
     if (taskback_own) {
         taskback_own->unread = 0;
-        use_piece(taskback_own, fresh_memory(PIECE));
-        taskback_own->part_key += PART;
+        use_piece(taskback_own, fresh_memory(PIECE_ROOM));
+        taskback_own->lanes.follows = 0;
+        begin_part(taskback_own);
     }
 }
 

@@ -4,6 +4,7 @@
 #include "llvm/Passes/PassPlugin.h"
 
 #include "known.h"
+#include "stretches.h"
 
 namespace {
 
@@ -98,8 +99,13 @@ private:
                 add_filling(one, is_told, fillings);
             }
         }
-        for (auto &access : found)
-            put_call(*access.first, access.second);
+        Stretches stretches(function);
+        for (auto &access : found) {
+            Instruction &one = *access.first;
+            const bool is_lane = simd.is_lanes(one), may_go_on = !is_lane && is_element(size_of_access(one));
+            if (!may_go_on || is_number(one, access.second, is_loop) || !stretches.add(one, access.second, size_of_access(one)))
+                put_call(one, access.second, is_lane ? IN_LANE : ELSEWHERE);
+        }
         simd.put_calls();
         for (Instruction *one : restores)
             put_call_of_restore(*one);
@@ -109,6 +115,7 @@ private:
             put_call_of_last(*function.getParent(), branch->getSuccessor(0), "taskback_last_begin");
             put_call_of_last(*function.getParent(), branch->getSuccessor(1), "taskback_last_end");
         }
+        stretches.put_calls(stretch_count_);
     }
 
     // Whether the recorder may begin a new part of the task there: up to it a pointer that is loaded from again tells nothing.
@@ -155,21 +162,29 @@ private:
         return added.first->second;
     }
 
-    static void put_call(Instruction &one, Value *pointer) {
+    // How the recorder's calls for loads and stores are named: those in a lane of a `simd` loop, and others.
+    static constexpr const char *IN_LANE = "taskback_lane_", *ELSEWHERE = "__sanitizer_cov_";
+
+    static uint64_t size_of_access(const Instruction &one) {
         const auto *store = dyn_cast<StoreInst>(&one);
-        Type *type = store ? store->getValueOperand()->getType() : one.getType();
-        const uint64_t size = one.getModule()->getDataLayout().getTypeStoreSize(type);
-        if (size > LONGEST || (size & (size - 1)) != 0)
-            return put_call_of_size(one, pointer, ConstantInt::get(Type::getInt64Ty(one.getContext()), size), store);
-        IRBuilder<> builder(&one);
-        Value *given = as_bytes(builder, pointer);
-        auto name = (store ? "__sanitizer_cov_store" : "__sanitizer_cov_load") + std::to_string(size);
-        builder.CreateCall(one.getModule()->getOrInsertFunction(name, builder.getVoidTy(), given->getType()), {given});
+        return one.getModule()->getDataLayout().getTypeStoreSize(store ? store->getValueOperand()->getType() : one.getType());
     }
 
-    static void put_call_of_size(Instruction &one, Value *pointer, Value *size, bool is_store) {
+    static bool is_element(uint64_t size) { return size <= LONGEST && size != 0 && (size & (size - 1)) == 0; }
+
+    static void put_call(Instruction &one, Value *pointer, const char *kind) {
+        put_call_of_size(one, pointer, ConstantInt::get(Type::getInt64Ty(one.getContext()), size_of_access(one)), isa<StoreInst>(one), kind);
+    }
+
+    static void put_call_of_size(Instruction &one, Value *pointer, Value *size, bool is_store, const char *kind = ELSEWHERE) {
         IRBuilder<> builder(&one);
         Value *given = as_bytes(builder, pointer), *bytes = builder.CreateZExtOrTrunc(size, builder.getInt64Ty());
+        const auto *number = dyn_cast<ConstantInt>(size);
+        if (number && is_element(number->getZExtValue())) {
+            const auto name = (kind + (is_store ? Twine("store") : Twine("load")) + Twine(number->getZExtValue())).str();
+            builder.CreateCall(one.getModule()->getOrInsertFunction(name, builder.getVoidTy(), given->getType()), {given});
+            return;
+        }
         auto callee = one.getModule()->getOrInsertFunction(is_store ? "taskback_store" : "taskback_load", builder.getVoidTy(),
                                                            given->getType(), bytes->getType());
         builder.CreateCall(callee, {given, bytes});
@@ -244,6 +259,7 @@ private:
     }
 
     const bool is_optimised_;
+    unsigned stretch_count_ = 0;
 };
 
 }  // namespace

@@ -29,16 +29,19 @@ static inline unsigned char *put_control(unsigned char *to, uint32_t family, uin
 #ifdef __x86_64__
 __attribute__((target("avx2,popcnt"))) static unsigned char *pack_wide(const struct event **last, const struct event *event,
                                                                        const struct event *end, unsigned char *to) {
+    const __m256i one = _mm256_setr_epi32(0, 0, 0, 0, 1, 0, 0, 0);
     for (; event != end; event++) {
-        const uint32_t family = family_of(event), step = is_step(event);
+        const uint32_t family = family_of(event);
         const __m256i prior = _mm256_loadu_si256((const __m256i *)last[family]);
         const __m256i before = _mm256_loadu_si256((const __m256i *)(event - 1)), now = _mm256_loadu_si256((const __m256i *)event);
         const __m256i same = _mm256_cmpeq_epi32(now, _mm256_blend_epi32(prior, before, 3 << STAMP_PART));
-        const uint32_t left_out = (uint32_t)_mm256_movemask_ps(_mm256_castsi256_ps(same)) | step << STAMP_PART;
+        const __m256i next = _mm256_cmpeq_epi32(now, _mm256_add_epi32(before, one));
+        const uint32_t step = (uint32_t)_mm256_movemask_ps(_mm256_castsi256_ps(next)) & 1 << STAMP_PART;
+        const uint32_t left_out = (uint32_t)_mm256_movemask_ps(_mm256_castsi256_ps(same)) | step;
         const uint32_t follow = ~left_out & 0xff;
         const __m256i order = _mm256_cvtepu8_epi32(_mm_loadl_epi64((const __m128i *)&numbers[follow]));
         last[family] = event;
-        to = put_control(to, family, follow, step);
+        to = put_control(to, family, follow, step >> STAMP_PART);
         _mm256_storeu_si256((__m256i *)to, _mm256_permutevar8x32_epi32(now, order));
         to += PART_SIZE * __builtin_popcount(follow);
     }

@@ -52,11 +52,24 @@ struct touched {
 
 /* Elements of one block in a row, which one place touches, by one chain of callers. */
 struct row {
-    uint64_t next;             /* the address at which it goes on */
-    uint64_t key;              /* as of what is touched */
+    uint64_t low, length;      /* it goes on where these end */
+    uint64_t key;              /* as of what is touched; 0: there is none */
     uint64_t frame, caller;
     struct event *event;
 };
+
+/* Elements in a row that a place in a loop of the program touches in one call of its function. The program's own code looks
+   there whether an access is the next one, or one that is told, before it calls the recorder (stretches.h). */
+struct stretch {
+    uint64_t next, low;        /* 0: there is none */
+    uint16_t *size;            /* that of the event */
+};
+
+/* The place that calls the recorder, where its code looks at a stretch, which has this number. */
+struct asking { uint32_t place, number; };
+
+enum { STRETCHES = 64 };
+extern __thread struct stretch taskback_stretches[STRETCHES];
 
 /* A worksharing loop that the thread is in: how its number is found, which unoptimised code keeps in memory. */
 struct loop {
@@ -112,6 +125,9 @@ struct own {
     uint64_t quiet_span;       /* from stack_low on: memory that no other task can know of */
     uint64_t stack_low;
     struct event *unread;      /* a write whose number is read at the thread's next call */
+    uint32_t unread_size;
+    struct asking asking;
+    uint64_t stretches;        /* a bit for each of these that is in use */
     struct event *last;        /* the last load or store, which may turn out to be an atomic operation's */
     int is_alone;              /* no other task and no other thread is there that could touch memory */
     uint64_t part_key;         /* its upper half rises at each call that isn't an access */
@@ -180,6 +196,9 @@ SELDOM void taskback_read_written(struct own *own);
 /* The lane under way is no more as the one before: what it has done is written down. */
 SELDOM void taskback_part_lane(struct own *own);
 
+/* What a part has under way ends with it. */
+SELDOM void taskback_end_part(struct own *own);
+
 static inline void taskback_settle(struct own *own) {
     if (own->unread)
         taskback_read_written(own);
@@ -187,9 +206,8 @@ static inline void taskback_settle(struct own *own) {
 
 /* From here on the same access counts again. */
 static inline void begin_part(struct own *own) {
-    if (__builtin_expect(own->lanes.follows, 0))
-        taskback_part_lane(own);
-    taskback_settle(own);
+    if ((uint64_t)own->unread | own->stretches | (uint64_t)own->lanes.follows)
+        taskback_end_part(own);
     own->last = 0;
     own->part = own->next;
     own->part_key += PART;

@@ -153,7 +153,6 @@ static int end_with_frame(struct own *own, uint32_t task, uint64_t stack) {
 }
 
 static void finish(struct own *own, uint32_t task, uint64_t stack) {
-    begin_part(own);
     if (!stack || !end_with_frame(own, task, stack))
         note(own, END, task, stack ? own->stack_low : 0, stack, 0)->mark = stack ? STACK : 0;
     own->frame_end = 0;
@@ -206,6 +205,7 @@ static void on_schedule(ompt_data_t *prior, ompt_task_status_t status, ompt_data
         break;
     case ompt_task_late_fulfill:
         note(own, FULFIL, own->task, before, 0, 0);
+        begin_part(own);
         finish(own, before, 0);
         return;
     case ompt_task_early_fulfill:

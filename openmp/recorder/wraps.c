@@ -40,6 +40,7 @@ enum { FARTHEST = 1 << 16, FAR = 1 << 11, MOST_OWN = 32, LEAST_STACK = 1 << 18 }
 
 static uint64_t gap_among(const uint64_t *pointers, uint64_t count, uint64_t here, uint64_t farthest) {
     uint64_t gap = 0;
+#pragma clang loop unroll(disable)
     for (uint64_t i = 0; i < count; i++)
         if (here - pointers[i] < farthest && here - pointers[i] > gap)
             gap = here - pointers[i];

@@ -26,12 +26,13 @@ struct __attribute__((packed)) four { int32_t number; };
 struct __attribute__((packed)) eight { uint64_t number; };
 
 static inline uint64_t number_at(uint64_t address, uint32_t size) {
-    switch (size) {
-    case 1: return (uint64_t)(int64_t)*(const volatile int8_t *)address;
-    case 2: return (uint64_t)(int64_t)((const volatile struct two *)address)->number;
-    case 4: return (uint64_t)(int64_t)((const volatile struct four *)address)->number;
-    default: return size < 8 ? 0 : ((const volatile struct eight *)address)->number;
-    }
+    if (__builtin_expect(size >= 8, 1))
+        return ((const volatile struct eight *)address)->number;
+    if (size == 4)
+        return (uint64_t)(int64_t)((const volatile struct four *)address)->number;
+    if (size == 2)
+        return (uint64_t)(int64_t)((const volatile struct two *)address)->number;
+    return size == 1 ? (uint64_t)(int64_t)*(const volatile int8_t *)address : 0;
 }
 
 /* A place, counted from where the program is loaded; 0: it isn't in it. */
@@ -62,8 +63,7 @@ __attribute__((always_inline)) static inline struct event *write_down(struct own
     if (__builtin_expect(own->next == own->end, 0))
         taskback_turn_page(own);
     struct event *event = own->next++;
-    if (own->next != own->end)
-        own->next->kind = 0;
+    own->next->kind = 0;
     event->address = address;
     event->value = value;
     event->stamp = stamp;

@@ -15,7 +15,7 @@ from .directives import words_for_loops
 
 RECORDER = os.path.join(os.path.dirname(os.path.dirname(os.path.abspath(__file__))), "recorder")
 JUDGE = os.path.join(os.path.dirname(RECORDER), "judge")
-PARTS = ["buffers.c", "packing.c", "accesses.c", "atomics.c", "tool.c", "wraps.c", "reductions.c", "loops.c", "lanes.c", "locks.c",
+PARTS = ["buffers.c", "packing.c", "accesses.c", "functions.c", "atomics.c", "tool.c", "wraps.c", "reductions.c", "loops.c", "lanes.c", "locks.c",
          "memory.c", "signals.c", "strings.c", "formats.c", "numbers.c", "operators.c", "stubs.c"]
 CXX_ENDINGS = (".cc", ".cpp", ".cxx", ".C", ".c++", ".cp", ".CPP")
 SOURCE_ENDINGS = (".c",) + CXX_ENDINGS
@@ -160,7 +160,7 @@ def folder_for(compiler: str) -> str:
 def recorder_objects(compiler: str, names: list[str]) -> list[str]:
     """The recorder's parts, compiled where they aren't or are older than their text."""
     folder = folder_for(compiler)
-    headers = [os.path.join(RECORDER, name) for name in ("recorder.h", "event.h", "packing.h", "writing.h")]
+    headers = [os.path.join(RECORDER, name) for name in ("recorder.h", "event.h", "packing.h", "writing.h", "touches.h")]
     objects = []
     for name in names:
         source = os.path.join(RECORDER, name)
@@ -195,7 +195,7 @@ def pass_plugin(compiler: str) -> str | None:
     made = os.path.join(folder_for(compiler), "instrument.so")
     if os.environ.get("TASKBACK_PLUGIN") == "0":
         return None
-    sources = [source, os.path.join(RECORDER, "known.h")]
+    sources = [source, *(os.path.join(RECORDER, name) for name in ("known.h", "stretches.h"))]
     if is_newer(made, *sources):
         return made
     told = subprocess.run([compiler, "-print-resource-dir"], capture_output=True, text=True, check=False).stdout.strip()
