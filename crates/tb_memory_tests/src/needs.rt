@@ -6,7 +6,7 @@ use std::mem;
 use std::process::Abort;
 use tb_cause::{CauseRefusal, needed_by, needs};
 use tb_core::Core;
-use tb_order::{causes, count_edges, count_races, edges, races};
+use tb_order::{causes, edges, races};
 use tb_roll::{RollRefusal, ready, same_run};
 
 /// A step, how many steps need it, how many it needs, and how many of these at once.
@@ -36,11 +36,6 @@ fn compare(rt: &(impl Abort + AllocGlobal), core: &Core) {
     assert_eq!(rt; raced.expect(rt, "memory is there again").len(), 1);
     let needed = again!(rt; edges(rt.alloc(), core), _, true);
     assert_eq!(rt; needed.expect(rt, "memory is there again").len(), 13);
-    let entries = core.legal_entries();
-    let raced = again!(rt; count_races(rt.alloc(), &entries), _, true);
-    assert_eq!(rt; raced.expect(rt, "memory is there again"), 1);
-    let needed = again!(rt; count_edges(rt.alloc(), &entries), _, true);
-    assert_eq!(rt; needed.expect(rt, "memory is there again"), 13);
     let same = again!(rt; same_run(rt.alloc(), core, core), _, true);
     assert!(rt; same == Ok(true));
 }

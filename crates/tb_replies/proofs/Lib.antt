@@ -8,8 +8,5 @@ pub mod RolledLemmas
 pub mod BodyLemmas
 pub mod TeamLemmas
 pub mod ToldLemmas
-pub mod PieceLemmas
 pub mod HistoryLemmas
-pub mod RaceLemmas
-pub mod EdgeLemmas
 pub mod AnswerLemmas

@@ -7,7 +7,7 @@ use Rattle.tb_commands.specs.declared.asked.Asked.{Asked}
 use Rattle.tb_commands.specs.declared.asked.Asked.TheVariants.{Command as Asks, Go}
 use Rattle.tb_commands.specs.declared.command.Command.{Command}
 use Rattle.tb_commands.specs.declared.command.Command.TheVariants.{Run, Show}
-use Rattle.tb_view.specs.declared.view.View.TheVariants.{Edges, Hist, Races}
+use Rattle.tb_view.specs.declared.view.View.TheVariants.{Hist}
 use Rattle.tb_team.specs.declared.lost.Lost.{Lost}
 use Rattle.tb_team.specs.declared.lost.Lost.TheVariants.{Memory as NoMemory}
 use Rattle.tb_replies.specs.Replies.{Answers}
@@ -42,23 +42,20 @@ failures_at _ = 0
 
 -- ---- the replies that go out in pieces
 
--- the command writes step by step: the steps of `run`, or those that are there, their races or
--- their immediate needs
+-- the command writes the steps of `run`, or those that are there
 abbrev pub TellsSteps : Command → Type 0
 TellsSteps (Run most) = ⊤
 TellsSteps (Show Hist) = ⊤
-TellsSteps (Show Races) = ⊤
-TellsSteps (Show Edges) = ⊤
 TellsSteps _ = ⊥
 
--- what is asked for is written in pieces: what a command writes step by step, and the steps of
+-- what is asked for is written in pieces: the steps of `run`, those that are there, and those of
 -- `go` where one worker takes them
 abbrev pub AreTold : Asked → Type 0
 AreTold (Asks command) = TellsSteps command
 AreTold (Go workers most) = workers ≡ 1
 AreTold _ = ⊥
 
--- the line asks for what is written step by step, in pieces
+-- the line asks for steps, and is written them in pieces
 abbrev pub AsksSteps : ℕ → List ℕ → Type 0
 AsksSteps limit line = AreTold (asked limit line)
 

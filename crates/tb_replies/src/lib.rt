@@ -3,12 +3,10 @@
 
 mod boxed_run;
 mod breaking;
-mod edges;
 mod going;
 mod history;
 pub mod laws;
 mod newest;
-mod races;
 mod refusing;
 mod replies;
 mod rolling;

@@ -13,11 +13,9 @@ ghost use Rattle.tb_model.specs.Spelling.{step_id_text};
 
 use crate::boxed_run::BoxedRun;
 use crate::breaking::{body_reply, break_reply, clear_reply};
-use crate::edges::edges_reply;
 use crate::going::go_reply;
 use crate::history::history_reply;
 use crate::newest::append_newest;
-use crate::races::races_reply;
 use crate::refusing::{refused, refused_for, refused_with};
 use crate::rolling::roll_reply;
 use crate::running::run_reply;
@@ -131,8 +129,6 @@ fn reply<K: Sink>(
         Command::BreakBody { name } => Ok(body_reply(alloc, live, name.as_slice())?),
         Command::Clear { number } => Ok(clear_reply(alloc, live, number)?),
         Command::Show { view: View::Hist } => Ok(history_reply(alloc, sink, live)?),
-        Command::Show { view: View::Races } => Ok(races_reply(alloc, sink, live)?),
-        Command::Show { view: View::Edges } => Ok(edges_reply(alloc, sink, live)?),
         Command::Show { view } => Ok(view_reply(alloc, live, &view)?),
     }
 }

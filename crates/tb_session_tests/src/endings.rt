@@ -80,7 +80,6 @@ fn long_replies_go_out_in_pieces(rt: HostRuntime) -> Result<(), Fail> {
         ("run 4000\nhist\n", 2),
         ("run 4500\nhist\n", 4),
         ("go 1 4500\n", 2),
-        ("run 4500\nedges\n", 4),
     ] {
         let mut text = Vec::from_slice(alloc, ENDLESS)?;
         text.extend_from_slice(commands.as_bytes())?;

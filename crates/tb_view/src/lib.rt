@@ -24,7 +24,6 @@ mod view;
 mod view_refusal;
 mod waits;
 
-pub use reasons::{append_edges, edges_head, races_head};
 pub use showing::{draft, line, text};
 pub use step_counts::StepCounts;
 pub use step_line::append_line;

@@ -1,9 +1,8 @@
 //! Immediate needs and races, as text.
 
-ghost use Rattle.std.specs.Prelude.{◌≡◌, ◌++◌, IfOk, OnOk, codes, decimal};
+ghost use Rattle.std.specs.Prelude.{◌≡◌, ◌++◌, IfOk, OnOk};
 ghost use Rattle.tb_steps.specs.Scans.{history_of};
-ghost use Rattle.tb_draft.specs.Races.{races_head, races_text};
-ghost use Rattle.tb_view.specs.Lines.{line};
+ghost use Rattle.tb_draft.specs.Races.{races_text};
 ghost use Rattle.tb_view.specs.Reasons;
 
 use crate::step_line::append_line;
@@ -81,19 +80,13 @@ pub(crate) fn causes_text(
     Ok(text)
 }
 
-/// How many races there are, as a line.
-pub fn races_head(alloc: Global, count: usize) -> Result<Draft, AllocError>
-    ensures { IfOk result (λ text. text ≡ races_head count) }
-{
-    let head = format!(in alloc; "races {count}\n")?;
-    Ok(Draft::of(alloc, head))
-}
-
 /// How many races these are, and the line of each.
 pub(crate) fn races_text(alloc: Global, races: &[Race]) -> Result<Draft, AllocError>
     ensures { IfOk result (λ text. text ≡ races_text races.now) }
 {
-    let mut text = races_head(alloc, races.len())?;
+    let count = races.len();
+    let head = format!(in alloc; "races {count}\n")?;
+    let mut text = Draft::of(alloc, head);
     'races: for race in races {
         text.push_race(race)?;
     }
@@ -110,29 +103,15 @@ fn append_edge(text: &mut Draft, edge: &Edge) -> Result<(), AllocError>
     text.push('\n')
 }
 
-/// Appends the lines of immediate needs. Where memory runs out a part of them may stay.
-pub fn append_edges(text: &mut Draft, edges: &[Edge]) -> Result<(), AllocError>
-    ensures { OnOk result (text.new ≡ text.old ++ Reasons.edge_lines edges.now) }
-{
-    'edges: for edge in edges {
-        append_edge(text, edge)?;
-    }
-    Ok(())
-}
-
-/// How many immediate needs there are, as a line.
-pub fn edges_head(alloc: Global, count: usize) -> Result<Draft, AllocError>
-    ensures { IfOk result (λ text. text ≡ line (codes "edges " ++ decimal count)) }
-{
-    let head = format!(in alloc; "edges {count}\n")?;
-    Ok(Draft::of(alloc, head))
-}
-
 /// How many immediate needs all steps have, and the line of each.
 pub(crate) fn edges_text(alloc: Global, edges: &[Edge]) -> Result<Draft, AllocError>
     ensures { IfOk result (λ text. text ≡ Reasons.edges_text edges.now) }
 {
-    let mut text = edges_head(alloc, edges.len())?;
-    append_edges(&mut text, edges)?;
+    let count = edges.len();
+    let head = format!(in alloc; "edges {count}\n")?;
+    let mut text = Draft::of(alloc, head);
+    'edges: for edge in edges {
+        append_edge(&mut text, edge)?;
+    }
     Ok(text)
 }
